@@ -1,0 +1,64 @@
+-- The receiving call (01, "The receiving table"). A report is looked at only when the packet was read as far as its
+-- payload (none of 1 to 4); then come 5 and 6, then 7 to 11.
+use Prim.Native.Nat.{ℕ, _+_, _-_, _%_}
+use mathlib.Core.Bool.{Bool, true, false, not, cond, _&&_}
+use mathlib.Core.List.{List, [], _∷_}
+use lib.Dec.{leb, eqb}
+use Rattle.model.specs.declared.Report.{Report}
+use Rattle.model.specs.declared.Segment.{Segment}
+use Rattle.model.specs.declared.Table.{Table}
+use Rattle.model.specs.Refusals.{
+  otherPayloadType,
+  otherSsrc,
+  offsetTooLarge,
+  tableFull,
+  invalidTable,
+  none,
+  _if_else_,
+  _orElse_,
+  Told,
+  telling,
+}
+use Rattle.model.specs.Packet.{headerRefusal, payloadRefusal, payload, payloadType, ssrc, reportIn}
+use Rattle.model.specs.Table.{valid, held, holds, taking}
+
+-- 01's term: a report's offset is (timestamp - origin) modulo 2^32
+abbrev pub offset : ℕ → ℕ → ℕ
+offset origin timestamp = (timestamp + 0x1_0000_0000 - origin) % 0x1_0000_0000
+
+-- the report, as it is heard from an origin
+abbrev pub heardFrom : ℕ → Report → Segment
+heardFrom origin r = record {
+  offset = offset origin (r .timestamp);
+  code = r .code;
+  duration = r .duration;
+  volume = r .volume;
+  ended = r .ended;
+  marked = r .marker;
+}
+
+abbrev pub heardIn : Table → List ℕ → Segment
+heardIn t bs = heardFrom (t .origin) (reportIn bs)
+
+unfoldable pub receiveRefusal : Table → List ℕ → ℕ
+receiveRefusal t bs =
+    invalidTable if not (valid t) else
+    headerRefusal bs orElse
+    otherPayloadType if not (eqb (payloadType bs) (t .«payload_type»)) else
+    otherSsrc if not (eqb (ssrc bs) (t .ssrc)) else
+    payloadRefusal (payload bs) orElse
+    offsetTooLarge if leb 0x8000_0000 (heardIn t bs .offset) else
+    tableFull if eqb (t .count) 128 && not (holds (heardIn t bs) (held t)) else
+    none
+
+-- what the call tells (whether the segment is new), and the table after it
+pub record Receiving : Type 0 where
+  pub answer : Told Bool
+  pub table : Table
+
+-- under a refusal the table comes back equal
+abbrev pub receive : Table → List ℕ → Receiving
+receive t bs = record {
+  answer = telling (receiveRefusal t bs) false (not (holds (heardIn t bs) (held t)));
+  table = cond (eqb (receiveRefusal t bs) none) (taking t (heardIn t bs)) t;
+}

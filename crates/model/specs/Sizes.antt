@@ -1,0 +1,77 @@
+-- The events that demand 3 speaks of, and their sizes (01, "From segments to events": "The sizes for demand 3").
+use Prim.Native.Nat.{ℕ, _+_, _%_, _<_, _≤_}
+use mathlib.Core.Path.{_≡_}
+use mathlib.Core.Bool.{true}
+use mathlib.Core.List.{List, [], _∷_, List·Memᴰ}
+use lib.ListN.{length}
+use Rattle.model.specs.declared.Report.{Report}
+use Rattle.model.specs.declared.Plan.{Plan}
+use Rattle.model.specs.declared.Table.{Table}
+use Rattle.model.specs.Limits.{segmentSize}
+use Rattle.model.specs.Plan.{cut, planInRange}
+
+-- An event to be sent. Its start is an offset; it has a period and a first sequence number of its own.
+pub record Sent : Type 0 where
+  pub code : ℕ
+  pub start : ℕ
+  pub length : ℕ
+  pub volume : ℕ
+  pub period : ℕ
+  pub sequence : ℕ
+
+abbrev pub end : Sent → ℕ
+end e = e .start + e .length
+
+-- Its plan, for the table that was opened: one SSRC and payload type, those of the table, and wire start
+-- (origin + start) modulo 2^32.
+abbrev pub planOf : Table → Sent → Plan
+planOf t e = record {
+  «payload_type» = t .«payload_type»;
+  ssrc = t .ssrc;
+  sequence = e .sequence;
+  start = (t .origin + e .start) % 0x1_0000_0000;
+  code = e .code;
+  volume = e .volume;
+  length = e .length;
+  period = e .period;
+}
+
+-- each event ends at or before the next one's start
+unfoldable pub Apart : List Sent → Type 0
+Apart [] = Unit {0}
+Apart (e ∷ []) = Unit {0}
+Apart (e ∷ f ∷ es) = (end e ≤ f .start) × Apart (f ∷ es)
+
+-- the segments of all events together
+unfoldable pub segmentsInAll : Table → List Sent → ℕ
+segmentsInAll t [] = 0
+segmentsInAll t (e ∷ es) = length (cut segmentSize (planOf t e)) + segmentsInAll t es
+
+-- the sizes
+pub record Sizes (t : Table) (es : List Sent) : Type 0 where
+  -- lengths, periods, volumes and codes as in the plan
+  pub ranges : (e : Sent) → List·Memᴰ e es → planInRange (planOf t e) ≡ true
+  pub apart : Apart es
+  -- each ends below offset 2^31
+  pub near : (e : Sent) → List·Memᴰ e es → end e < 0x8000_0000
+  -- at most 128 segments altogether
+  pub few : segmentsInAll t es ≤ 128
+
+-- WHAT THE MACHINE'S TYPES SAY
+-- Bytes below 256, numbers within the widths of their fields, a table's 128 places: the records here do not know these.
+-- They are the only hypotheses of the demands beyond 01's.
+
+abbrev pub BytesFit : List ℕ → Type 0
+BytesFit bs = (b : ℕ) → List·Memᴰ b bs → b < 256
+
+pub record ReportFits (r : Report) : Type 0 where
+  pub sequence : r .sequence < 65536
+  pub timestamp : r .timestamp < 0x1_0000_0000
+  pub ssrc : r .ssrc < 0x1_0000_0000
+
+pub record FitsTypes (t : Table) (es : List Sent) (packets : List (List ℕ)) : Type 0 where
+  pub places : length (t .segments) ≡ 128
+  pub ssrc : t .ssrc < 0x1_0000_0000
+  pub origin : t .origin < 0x1_0000_0000
+  pub sequences : (e : Sent) → List·Memᴰ e es → e .sequence < 65536
+  pub bytes : (p : List ℕ) → List·Memᴰ p packets → BytesFit p
