@@ -8,7 +8,7 @@ use Rattle.model.specs.declared.Plan.{Plan}
 use Rattle.model.specs.declared.Segment.{Segment}
 use Rattle.model.specs.declared.Event.{Event}
 use Rattle.model.specs.Refusals.{Told, answered}
-use Rattle.model.specs.Plan.{segment, cutFrom, interim, reportsOfAll, markFirst, allOnWire, countReports, writePlanned}
+use Rattle.model.specs.Plan.{segment, cutFrom, interim, reportsOfAll, markFirst, allOnWire, reports, reportAt, countReports, writePlanned}
 use Rattle.model.specs.Events.{units, loudness, lastEnded, continuesNearest, continuing, eventsFrom, eventsOf}
 
 -- what a row speaks of
@@ -84,5 +84,5 @@ rows =
     ∷ []
 
 pub rows-hold : map (λ r. r .computed) rows ≡ map (λ r. r .expected) rows
-unfolding cutFrom interim reportsOfAll markFirst allOnWire units loudness lastEnded continuesNearest continuing eventsFrom
+unfolding cutFrom interim reportsOfAll markFirst allOnWire reports reportAt writePlanned units loudness lastEnded continuesNearest continuing eventsFrom
 rows-hold = refl

@@ -112,11 +112,11 @@ allOnWire p j [] = []
 allOnWire p j (r ∷ rs) = onWire p j r ∷ allOnWire p (suc j) rs
 
 -- the plan's own list of reports
-abbrev pub reports : Plan → List Report
+unfoldable pub reports : Plan → List Report
 reports p = allOnWire p 0 (sayings segmentSize p)
 
 -- report number k, counted from 1
-abbrev pub reportAt : Plan → ℕ → Report
+unfoldable pub reportAt : Plan → ℕ → Report
 reportAt p k = getD (reports p) (k - 1) noReport
 
 -- THE TWO CALLS
@@ -138,5 +138,5 @@ planRefusal p k output =
     none
 
 -- report number k, written into a lent output
-abbrev pub writePlanned : Plan → ℕ → List ℕ → Writing
+unfoldable pub writePlanned : Plan → ℕ → List ℕ → Writing
 writePlanned p k output = writing (planRefusal p k output) (reportAt p k) output

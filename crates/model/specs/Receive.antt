@@ -37,7 +37,7 @@ heardFrom origin r = record {
   marked = r .marker;
 }
 
-abbrev pub heardIn : Table → List ℕ → Segment
+unfoldable pub heardIn : Table → List ℕ → Segment
 heardIn t bs = heardFrom (t .origin) (reportIn bs)
 
 unfoldable pub receiveRefusal : Table → List ℕ → ℕ
@@ -57,7 +57,7 @@ pub record Receiving : Type 0 where
   pub table : Table
 
 -- under a refusal the table comes back equal
-abbrev pub receive : Table → List ℕ → Receiving
+unfoldable pub receive : Table → List ℕ → Receiving
 receive t bs = record {
   answer = telling (receiveRefusal t bs) false (not (holds (heardIn t bs) (held t)));
   table = cond (eqb (receiveRefusal t bs) none) (taking t (heardIn t bs)) t;

@@ -70,10 +70,14 @@ pub record Keeps (s r : Segment) : Type 0 where
 abbrev pub Heard : List Segment → Segment → (Segment → Type 0) → Type 0
 Heard rs s P = (r : Segment) × List·Memᴰ r rs × Keeps s r × P r
 
+-- every field of s is that of some report
+pub record Attained (rs : List Segment) (s : Segment) : Type 0 where
+  pub longest : Heard rs s (λ r. r .duration ≡ s .duration)
+  pub loudest : Heard rs s (λ r. r .volume ≡ s .volume)
+  pub ended : s .ended ≡ true → Heard rs s (λ r. r .ended ≡ true)
+  pub marked : s .marked ≡ true → Heard rs s (λ r. r .marked ≡ true)
+
 pub record Derived (rs l : List Segment) : Type 0 where
   pub rises : rising l ≡ true
   pub kept : (r : Segment) → List·Memᴰ r rs → (s : Segment) × List·Memᴰ s l × Keeps s r
-  pub longest : (s : Segment) → List·Memᴰ s l → Heard rs s (λ r. r .duration ≡ s .duration)
-  pub loudest : (s : Segment) → List·Memᴰ s l → Heard rs s (λ r. r .volume ≡ s .volume)
-  pub ended : (s : Segment) → List·Memᴰ s l → s .ended ≡ true → Heard rs s (λ r. r .ended ≡ true)
-  pub marked : (s : Segment) → List·Memᴰ s l → s .marked ≡ true → Heard rs s (λ r. r .marked ≡ true)
+  pub attained : (s : Segment) → List·Memᴰ s l → Attained rs s

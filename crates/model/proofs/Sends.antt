@@ -1,0 +1,153 @@
+-- The packets of a sent event: they are in range, so the reader gives their reports back, and from the table's origin each
+-- is heard as what the plan says of its segment, at the event's own offsets.
+use Prim.Native.Nat.{ℕ, zero, suc, _+_, _-_, _*_, _%_, _<_, _≤_}
+use mathlib.Core.Path.{_≡_, refl, sym, ap, subst, _∙_}
+use mathlib.Core.Bool.{Bool, true, false, not, cond, _&&_, _||_}
+use mathlib.Core.List.{List, [], _∷_, _++_, map, append-nil}
+use native.Mathlib.Omega.{arith}
+use lib.Dec.{ltb, leb, eqb}
+use lib.ListN.{length, getD, drop, replicate}
+use borrow.Author.Tests.{leb-true, le-leb, le-ltb, ne-eqb}
+use Rattle.model.specs.declared.Report.{Report}
+use Rattle.model.specs.declared.Plan.{Plan}
+use Rattle.model.specs.declared.Segment.{Segment}
+use Rattle.model.specs.declared.Table.{Table}
+use Rattle.model.specs.Limits.{segmentSize, isCode}
+use Rattle.model.specs.Refusals.{none, noReport}
+use Rattle.model.specs.Packet.{reportIn, packetOf, reportInRange, payloadType, ssrc}
+use Rattle.model.specs.Plan.{fullSegments, restUnits, cutFrom, cut, sayings, onWire, allOnWire, reports, reportAt, planInRange, planRefusal, writePlanned}
+use Rattle.model.specs.Table.{noSegment}
+use Rattle.model.specs.Receive.{offset, heardFrom, heardIn}
+use Rattle.model.specs.Sizes.{Sent, end, planOf, ReportFits}
+use Rattle.model.specs.Demands.{sent, bytesOf}
+use Rattle.model.proofs.Order.{Mem, and-then}
+use Rattle.model.proofs.Segments.{mem-map}
+use Rattle.model.proofs.Tables.{and-both}
+use Rattle.model.proofs.Packets.{packet-report}
+use Rattle.model.proofs.Cuts.{InCut, cut-place, cut-within, cut-units, later, cut-later}
+use Rattle.model.proofs.Plans.{Says, sayings-say, sayings-first, length-wire, wire-at, mem-at}
+use Rattle.model.proofs.Recovered.{segmentsSent}
+
+-- the ranges of a plan, one by one
+pub record PlanRanges (p : Plan) : Type 0 where
+  pub type : leb (p .«payload_type») 127 ≡ true
+  pub code : isCode (p .code) ≡ true
+  pub volume : p .volume ≤ 63
+  pub some : 1 ≤ p .length
+  pub most : p .length ≤ 1048560
+  pub often : 1 ≤ p .period
+
+pub plan-ranges : (p : Plan) → planInRange p ≡ true → PlanRanges p
+plan-ranges p v =
+    let a = and-then _ _ v in
+    let b = and-then _ _ (a .1) in
+    let c = and-then _ _ (b .1) in
+    let d = and-then _ _ (c .1) in
+    let e = and-then _ _ (d .0) in
+    record {
+      type = a .0;
+      code = b .0;
+      volume = leb-true _ _ (c .0);
+      some = leb-true _ _ (e .0);
+      most = leb-true _ _ (e .1);
+      often = leb-true _ _ (and-then _ _ (d .1) .0);
+    }
+
+-- REPORT K OF A PLAN
+
+-- what report k says, its offset counted from the event's start
+abbrev pub sayingAt : Plan → ℕ → Segment
+sayingAt p k = getD (sayings segmentSize p) (k - 1) noSegment
+
+module _ (p : Plan) (k : ℕ) (low : 1 ≤ k) (high : k ≤ length (reports p)) where
+  within : k - 1 < length (sayings segmentSize p)
+  unfolding reports
+  within = omega (arith, length-wire p 0 (sayings segmentSize p))
+
+  pub report-is : reportAt p k ≡ onWire p (k - 1) (sayingAt p k)
+  unfolding reportAt reports
+  report-is =
+      let z : 0 + (k - 1) ≡ k - 1 = omega arith in
+      wire-at p 0 (k - 1) (sayings segmentSize p) noReport noSegment within ∙ ap (λ (j : ℕ). onWire p j (sayingAt p k)) z
+
+  pub saying-says : PlanRanges p → (g : Segment) × Mem g (cut segmentSize p) × Says g (sayingAt p k)
+  saying-says r = sayings-say segmentSize p (omega arith) (r .often) (sayingAt p k) (mem-at (sayings segmentSize p) (k - 1) noSegment within)
+
+  pub report-in-range : PlanRanges p → reportInRange (reportAt p k) ≡ true
+  report-in-range r =
+      let q = saying-says r in
+      let s = q .2 in
+      let c = cut-place segmentSize p (omega arith) (fullSegments segmentSize p) 0 true (q .0) (q .1) in
+      let w = cut-within segmentSize p (omega arith) (fullSegments segmentSize p) 0 true (q .0) (q .1) in
+      let known : isCode (sayingAt p k .code) ≡ true = rw (s .code ∙ c .code) (r .code) in
+      rw report-is
+      (and-both (r .type) (and-both known (and-both (le-leb (sayingAt p k .volume) 63 (omega (arith, s .volume, c .volume, r .volume)))
+      (and-both (le-leb 1 (sayingAt p k .duration) (s .some)) (le-leb (sayingAt p k .duration) 65535 (omega (arith, s .duration, w)))))))
+
+  pub report-fits : p .ssrc < 0x1_0000_0000 → ReportFits (reportAt p k)
+  report-fits h = rw report-is (record { sequence = omega arith; timestamp = omega arith; ssrc = h })
+
+  -- the sender's call gives its 16 bytes
+  pub planned-bytes : planInRange p ≡ true → writePlanned p k (replicate 16 0) .output ≡ packetOf (reportAt p k)
+  unfolding writePlanned
+  planned-bytes r = rw (r, ne-eqb k 0 (λ e. omega arith), le-ltb (length (reports p)) k high) (append-nil _)
+
+-- REPORT K OF A SENT EVENT
+
+-- what it says, at the event's own offsets
+abbrev pub said : Table → Sent → ℕ → Segment
+said t e k = later (e .start) (sayingAt (planOf t e) k)
+
+says-later : (n : ℕ) {g r : Segment} → Says g r → Says (later n g) (later n r)
+says-later n s = record {
+  offset = ap (λ (x : ℕ). n + x) (s .offset);
+  code = s .code;
+  some = s .some;
+  duration = s .duration;
+  volume = s .volume;
+  ended = s .ended;
+  marked = s .marked;
+}
+
+-- an event's segments are those of its plan, moved to its start
+pub sent-later : (t : Table) (e : Sent) → map (later (e .start)) (cut segmentSize (planOf t e)) ≡ segmentsSent segmentSize t e
+sent-later t e =
+    let z : e .start + 0 ≡ e .start = omega arith in
+    cut-later segmentSize (planOf t e) (e .start) (fullSegments segmentSize (planOf t e)) 0 true
+    ∙ ap (λ (o : ℕ). cutFrom segmentSize (planOf t e) (fullSegments segmentSize (planOf t e)) o true) z
+
+pub later-mem : (t : Table) (e : Sent) (g : Segment) → Mem g (cut segmentSize (planOf t e)) → Mem (later (e .start) g) (segmentsSent segmentSize t e)
+later-mem t e g m = rw (sent-later t e) at (mem-map (later (e .start)) (cut segmentSize (planOf t e)) g m)
+
+module _ (t : Table) (e : Sent) (range : planInRange (planOf t e) ≡ true) (k : ℕ) (low : 1 ≤ k) (high : k ≤ length (reports (planOf t e))) where
+  pub said-says : (g : Segment) × Mem g (segmentsSent segmentSize t e) × Says g (said t e k)
+  said-says =
+      let q = saying-says (planOf t e) k low high (plan-ranges (planOf t e) range) in
+      (later (e .start) (q .0), later-mem t e (q .0) (q .1), says-later (e .start) (q .2))
+
+  -- it lies before the event's end
+  pub said-before : said t e k .offset < end e
+  said-before =
+      let r = plan-ranges (planOf t e) range in
+      let q = saying-says (planOf t e) k low high r in
+      let c = cut-place segmentSize (planOf t e) (omega arith) (fullSegments segmentSize (planOf t e)) 0 true (q .0) (q .1) in
+      omega (arith, q .2 .offset, c .to, c .long, cut-units segmentSize (planOf t e) (r .some))
+
+  pub sent-bytes : bytesOf t (sent e k) ≡ packetOf (reportAt (planOf t e) k)
+  sent-bytes = planned-bytes (planOf t e) k low high range
+
+  pub sent-in-range : reportInRange (reportAt (planOf t e) k) ≡ true
+  sent-in-range = report-in-range (planOf t e) k low high (plan-ranges (planOf t e) range)
+
+  module _ (fits : t .ssrc < 0x1_0000_0000) where
+    pub sent-report : reportIn (packetOf (reportAt (planOf t e) k)) ≡ onWire (planOf t e) (k - 1) (sayingAt (planOf t e) k)
+    sent-report = packet-report (reportAt (planOf t e) k) (report-fits (planOf t e) k low high fits) sent-in-range ∙ report-is (planOf t e) k low high
+
+    -- from the table's origin it is heard as it was said
+    pub heard-as-said : t .origin < 0x1_0000_0000 → end e < 0x8000_0000 → heardIn t (packetOf (reportAt (planOf t e) k)) ≡ said t e k
+    unfolding heardIn
+    heard-as-said small near =
+        let s = sayingAt (planOf t e) k in
+        let q : offset (t .origin) (((t .origin + e .start) % 0x1_0000_0000 + s .offset) % 0x1_0000_0000) ≡ e .start + s .offset = omega (arith, said-before) in
+        ap (heardFrom (t .origin)) sent-report
+        ∙ (λ i. record { offset = q i; code = s .code; duration = s .duration; volume = s .volume; ended = s .ended; marked = s .marked })
