@@ -1,9 +1,9 @@
 -- Along the calls of demand 3 every sent packet is taken, and nothing else is. None meets 11: each pair that is held is that
 -- of one of the events' segments, of which there are at most 128.
-use Prim.Native.Nat.{ℕ, zero, suc, _+_, _<_, _≤_}
-use mathlib.Core.Path.{_≡_, refl, sym, ap, subst, _∙_}
-use mathlib.Core.Bool.{Bool, true, false, not, cond, _&&_}
-use mathlib.Core.List.{List, [], _∷_, _++_, map, List·Memᴰ·head, List·Memᴰ·tail, List·Memᴰ·cases-cons, List·Memᴰ·not-nil, Memᴰ·cast}
+use Prim.Native.Nat.{ℕ, suc, _+_, _≤_}
+use mathlib.Core.Path.{_≡_, refl, sym, ap, _∙_}
+use mathlib.Core.Bool.{Bool, true, false, not, _&&_}
+use mathlib.Core.List.{List, [], _∷_, List·Memᴰ·head, List·Memᴰ·tail, List·Memᴰ·cases-cons, List·Memᴰ·not-nil}
 use mathlib.Core.Logic.{_⊎_, inl, inr, ⊎-elim}
 use native.Mathlib.Omega.{arith}
 use lib.Dec.{eqb}
@@ -13,22 +13,24 @@ use Rattle.model.specs.declared.Report.{Report}
 use Rattle.model.specs.declared.Segment.{Segment}
 use Rattle.model.specs.declared.Table.{Table}
 use Rattle.model.specs.Limits.{segmentSize}
-use Rattle.model.specs.Packet.{packetOf, reportIn, payloadType, ssrc}
-use Rattle.model.specs.Plan.{cut, reports, reportAt, planInRange}
+use Rattle.model.specs.Packet.{packetOf, ssrc}
+use Rattle.model.specs.Plan.{cut, reports, reportAt}
 use Rattle.model.specs.Segments.{Derived}
-use Rattle.model.specs.Table.{held, holds, put, taking}
+use Rattle.model.specs.Table.{held, holds, noRoom, put}
 use Rattle.model.specs.Receive.{heardIn, receiveRefusal, receive}
-use Rattle.model.specs.Sizes.{Sent, end, planOf, segmentsInAll, Sizes, BytesFit, FitsTypes}
-use Rattle.model.specs.Demands.{tableAfter, arrivals, Handed, sent, stranger, bytesOf, Fair, Admitted, packets}
-use Rattle.model.proofs.Order.{Mem, _≺_, Alike, alike-sym, alike-trans, ≺-trans, ≺-alike, alike-≺, ≺-not-alike, Rising, rises}
-use Rattle.model.proofs.Segments.{derived-put, keeps-alike}
+use Rattle.model.specs.Sizes.{Sent, planOf, segmentsInAll, Sizes, BytesFit, FitsTypes}
+use Rattle.model.specs.Demands.{arrivals, Handed, sent, stranger, bytesOf, Admitted, packets}
+use Rattle.model.proofs.Order.{_≺_, Alike, alike-sym, alike-trans, ≺-trans, ≺-alike, alike-≺, ≺-not-alike, Rising, rises}
+use Rattle.model.proofs.Segments.{derived-put}
+use Rattle.model.proofs.Keeping.{keeps-alike}
 use Rattle.model.proofs.Packets.{packet-header, packet-payload, packet-fits}
-use Rattle.model.proofs.Tables.{Passed, passed, held-length, put-new}
+use Rattle.model.proofs.Tables.{tests-passed, held-length, put-new}
 use Rattle.model.proofs.Receives.{Taken, taken-if, refused-leaves, takes, taken-not-refused}
 use Rattle.model.proofs.Runs.{Reached, heard-from, step-taken, arrivals-refused, arrivals-taken}
 use Rattle.model.proofs.Plans.{Says}
 use Rattle.model.proofs.Recovered.{ApartFrom, apart-from, segmentsSent, allSent, in-all, all-rising}
 use Rattle.model.proofs.Sends.{plan-ranges, said, said-says, said-before, sent-later, sent-bytes, sent-in-range, sent-report, heard-as-said}
+use Rattle.model.proofs.Basics.{Mem}
 
 -- FEWER PAIRS, FEWER SEGMENTS
 
@@ -99,7 +101,7 @@ module _ (t : Table) (es : List Sent) (sizes : Sizes t es) (fits : FitsTypes t e
       let q = told (h .0) (h .1) in
       (q .0, q .1, alike-trans (alike-sym (keeps-alike (h .2))) (record { offset = q .2 .offset; code = q .2 .code }))
 
-  room-for : (rs : List Segment) (u : Table) → Along rs u → (r : Segment) → ToldOf r → (eqb (u .count) 128 && not (holds r (held u))) ≡ false
+  room-for : (rs : List Segment) (u : Table) → Along rs u → (r : Segment) → ToldOf r → noRoom u r ≡ false
   room-for rs u a r k = go (eqb (u .count) 128) refl (holds r (held u)) refl
     where
       d : Derived (r ∷ rs) (put r (held u))
@@ -112,7 +114,7 @@ module _ (t : Table) (es : List Sent) (sizes : Sizes t es) (fits : FitsTypes t e
       few = fewer (put r (held u)) (allSent segmentSize t es) (rises (put r (held u)) (d .rises)) (all-rising segmentSize t (omega arith) 0 es apart) (pairs-known d told)
 
       long : length (held u) ≡ u .count
-      long = held-length u (a .reached .sound .places) (passed u (a .reached .sound .passes) .few)
+      long = held-length u (a .reached .sound .places) (tests-passed u (a .reached .sound .passes) .few)
 
       go : (b : Bool) → eqb (u .count) 128 ≡ b → (c : Bool) → holds r (held u) ≡ c → (b && not c) ≡ false
       go true e true f = refl

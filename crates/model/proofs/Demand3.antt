@@ -1,27 +1,25 @@
 -- DEMAND 3, whole, and its corollary. What arrives is what was sent, so the table holds the segments of the events, and the
 -- list is the events. The table after the calls follows from the arrivals alone, so equal arrivals mean equal events.
-use Prim.Native.Nat.{ℕ, zero, suc, _+_, _-_, _%_, _<_, _≤_}
-use mathlib.Core.Path.{_≡_, refl, sym, ap, subst, _∙_}
+use Prim.Native.Nat.{ℕ, _+_, _%_, _<_, _≤_}
+use mathlib.Core.Path.{_≡_, refl, sym, ap, _∙_}
 use mathlib.Core.Bool.{Bool, true, false, cond}
-use mathlib.Core.List.{List, [], _∷_, map, List·Memᴰ·not-nil, Memᴰ·cast}
+use mathlib.Core.List.{List, [], map, List·Memᴰ·not-nil, Memᴰ·cast}
 use native.Mathlib.Omega.{arith}
-use lib.Dec.{ltb, leb}
-use lib.ListN.{length, replicate}
+use lib.Dec.{ltb}
+use lib.ListN.{length}
 use borrow.Author.Tests.{ltb-false, le-leb}
 use Rattle.model.specs.declared.Report.{Report}
-use Rattle.model.specs.declared.Plan.{Plan}
 use Rattle.model.specs.declared.Segment.{Segment}
-use Rattle.model.specs.declared.Event.{Event}
 use Rattle.model.specs.declared.Table.{Table}
 use Rattle.model.specs.declared.Opened.{Opened}
 use Rattle.model.specs.Limits.{segmentSize, isFull}
 use Rattle.model.specs.Refusals.{none, outOfRange}
-use Rattle.model.specs.Plan.{fullSegments, restUnits, cutFrom, cut, reports, reportAt, planInRange}
-use Rattle.model.specs.Segments.{rising, segmentsOf, Derived}
+use Rattle.model.specs.Plan.{fullSegments, cut, reports, planInRange}
+use Rattle.model.specs.Segments.{rising, segmentsOf}
 use Rattle.model.specs.Table.{noSegment, emptyTable, opened, held, allValid, valid}
 use Rattle.model.specs.Receive.{heardIn}
 use Rattle.model.specs.Events.{eventsOf}
-use Rattle.model.specs.Sizes.{Sent, end, planOf, Sizes, BytesFit, FitsTypes}
+use Rattle.model.specs.Sizes.{Sent, planOf, Sizes, BytesFit}
 use Rattle.model.specs.Demands.{
   tableAfter,
   arrivals,
@@ -30,7 +28,6 @@ use Rattle.model.specs.Demands.{
   reportsTaken,
   Handed,
   sent,
-  stranger,
   bytesOf,
   packets,
   Admitted,
@@ -38,16 +35,17 @@ use Rattle.model.specs.Demands.{
   Delivered,
   asListed,
   Demand-3,
-  Demand-3-apart,
+  Demand-3-corollary,
 }
-use Rattle.model.proofs.Order.{Mem, rising-one}
-use Rattle.model.proofs.Segments.{mem-map, map-mem, is-segmentsOf}
+use Rattle.model.proofs.Order.{rising-one}
+use Rattle.model.proofs.Segments.{is-segmentsOf}
 use Rattle.model.proofs.Runs.{Reached, start, filled, heard-from, lists-events}
-use Rattle.model.proofs.Cuts.{InCut, cut-place, cut-units, one-first, one-last, later}
+use Rattle.model.proofs.Cuts.{cut-place, cut-units, one-first, one-last, later}
 use Rattle.model.proofs.Plans.{Says, sayings-first}
 use Rattle.model.proofs.Recovered.{segmentsSent, allSent, of-all, in-all, all-rising, events-of-all, Witness, recovered}
 use Rattle.model.proofs.Sends.{plan-ranges, sayingAt, report-is, said, said-says, said-before, sent-bytes, sent-later, heard-as-said}
 use Rattle.model.proofs.Arrives.{apart, ToldOf, Along, told-sent, sent-fits, Outcome, outcome}
+use Rattle.model.proofs.Basics.{Mem, mem-map, map-mem}
 
 module _ (t : Table) (es : List Sent) (hs : List Handed) (d : Delivered t es hs) where
   along : Along t es (d .sizes) (d .fits) [] t
@@ -161,8 +159,8 @@ demand-3 t es hs d = lists-events (tableAfter t (packets t hs)) (final t es hs d
 same-reports : (t u : Table) (ps qs : List (List ℕ)) → t .origin ≡ u .origin → arrivals t ps ≡ arrivals u qs → reportsTaken t ps ≡ reportsTaken u qs
 same-reports t u ps qs o e = λ i. map (λ bs. heard-from u t bs o i) (e i)
 
-pub demand-3-apart : Demand-3-apart
-demand-3-apart t u es fs hs ks same-type same-source same-origin d c e =
+pub demand-3-corollary : Demand-3-corollary
+demand-3-corollary t u es fs hs ks same-type same-source same-origin d c e =
     sym (events-after t es hs d)
     ∙ ap eventsOf (is-segmentsOf (final t es hs d .derived)
     ∙ ap segmentsOf (same-reports t u (packets t hs) (packets u ks) same-origin e)
@@ -171,26 +169,23 @@ demand-3-apart t u es fs hs ks same-type same-source same-origin d c e =
 
 -- AN OPENED TABLE IS ONE INSTANCE
 
+-- one that was not refused has the numbers given, and a payload type up to 127
+opened-then : (payloadType ssrc origin : ℕ) → opened payloadType ssrc origin .refusal ≡ none
+    → (payloadType ≤ 127) × (opened payloadType ssrc origin .table ≡ emptyTable payloadType ssrc origin)
+opened-then payloadType ssrc origin e = go (ltb 127 payloadType) refl e
+  where
+    answer : Bool → Opened
+    answer b = cond b (record { table = emptyTable 0 0 0; refusal = outOfRange }) (record { table = emptyTable payloadType ssrc origin; refusal = none })
+
+    go : (b : Bool) → ltb 127 payloadType ≡ b → answer b .refusal ≡ none → (payloadType ≤ 127) × (answer b .table ≡ emptyTable payloadType ssrc origin)
+    go true q e = absurd (omega (arith, e))
+    go false q e = (ltb-false 127 payloadType q, refl)
+
 pub opened-empty : (payloadType ssrc origin : ℕ) → opened payloadType ssrc origin .refusal ≡ none → Empty (opened payloadType ssrc origin .table)
 unfolding valid rising allValid
-opened-empty payloadType ssrc origin e = go (ltb 127 payloadType) refl e
-  where
-    answer : Bool → Opened
-    answer b = cond b (record { table = emptyTable 0 0 0; refusal = outOfRange }) (record { table = emptyTable payloadType ssrc origin; refusal = none })
-
-    go : (b : Bool) → ltb 127 payloadType ≡ b → answer b .refusal ≡ none → Empty (answer b .table)
-    go true q e = absurd (omega (arith, e))
-    go false q e = record { empty = refl; passes = le-leb payloadType 127 (ltb-false 127 payloadType q) }
-
-opened-fields : (payloadType ssrc origin : ℕ) → opened payloadType ssrc origin .refusal ≡ none → opened payloadType ssrc origin .table ≡ emptyTable payloadType ssrc origin
-opened-fields payloadType ssrc origin e = go (ltb 127 payloadType) e
-  where
-    answer : Bool → Opened
-    answer b = cond b (record { table = emptyTable 0 0 0; refusal = outOfRange }) (record { table = emptyTable payloadType ssrc origin; refusal = none })
-
-    go : (b : Bool) → answer b .refusal ≡ none → answer b .table ≡ emptyTable payloadType ssrc origin
-    go true e = absurd (omega (arith, e))
-    go false e = refl
+opened-empty payloadType ssrc origin e =
+    let k = opened-then payloadType ssrc origin e in
+    rw (k .1) (record { empty = refl; passes = le-leb payloadType 127 (k .0) })
 
 module _ (payloadType ssrc origin : ℕ) (accepted : opened payloadType ssrc origin .refusal ≡ none) (es : List Sent) (hs : List Handed) where
   abbrev table : Table
@@ -201,7 +196,7 @@ module _ (payloadType ssrc origin : ℕ) (accepted : opened payloadType ssrc ori
   demand-3-opened s o q sizes admitted needed = demand-3 table es hs (record {
     empty = opened-empty payloadType ssrc origin accepted;
     sizes = sizes;
-    fits = rw (opened-fields payloadType ssrc origin accepted) (record { places = refl; ssrc = s; origin = o; sequences = q; bytes = λ p m. absurd (List·Memᴰ·not-nil m) });
+    fits = rw (opened-then payloadType ssrc origin accepted .1) (record { places = refl; ssrc = s; origin = o; sequences = q; bytes = λ p m. absurd (List·Memᴰ·not-nil m) });
     admitted = admitted;
     needed = needed;
   })

@@ -3,9 +3,19 @@
 use Prim.Native.Nat.{ℕ, zero, suc, _+_, _-_, _*_, _/_, _%_, _≤_, _<_}
 use mathlib.Core.Path.{_≡_, refl, sym, _∙_, ap, subst}
 use mathlib.Core.Logic.{⊎-elim}
-use mathlib.Core.Bool.{Bool, true, false, not, cond, true≢false, and-eq-true-iff}
-use mathlib.Core.List.{List, [], _∷_, _++_, Memᴰ·append-left, Memᴰ·append-right}
-use mathlib.Core.List.{List·Memᴰ·head, List·Memᴰ·tail, List·Memᴰ·not-nil, List·Memᴰ·cases-cons}
+use mathlib.Core.Bool.{Bool, true, false, not, cond, and-eq-true-iff}
+use mathlib.Core.List.{
+  List,
+  [],
+  _∷_,
+  _++_,
+  Memᴰ·append-left,
+  Memᴰ·append-right,
+  List·Memᴰ·head,
+  List·Memᴰ·tail,
+  List·Memᴰ·not-nil,
+  List·Memᴰ·cases-cons,
+}
 use native.Mathlib.Omega.{arith}
 use borrow.Author.Tests.{ltb-false, leb-true, eqb-true, eqb-false, not-false, le-ltb, le-leb, eq-eqb, ne-eqb}
 use lib.Dec.{ltb, eqb}
@@ -13,13 +23,42 @@ use lib.ListN.{length, take, drop, length-drop, take-append-drop, drop-of-length
 use lib.Seq.{take-all}
 use Rattle.model.specs.declared.Report.{Report}
 use Rattle.model.specs.Limits.{isCode}
-use Rattle.model.specs.Refusals.{none, _orElse_, Told, telling, answered, noReport}
-use Rattle.model.specs.Packet.{byte, number16, number32, bytes16, bytes32, bit}
-use Rattle.model.specs.Packet.{version, padded, extended, csrcCount, payloadType, afterHeader, bytesLeft, padCount}
-use Rattle.model.specs.Packet.{payload, code, ended, reserved, volume, duration, headerRefusal, payloadRefusal}
-use Rattle.model.specs.Packet.{readRefusal, reportIn, read, packetOf, reportInRange, writeRefusal, Writing, write}
+use Rattle.model.specs.Refusals.{none, Told, answered, noReport}
+use Rattle.model.specs.Packet.{
+  byte,
+  number16,
+  number32,
+  bytes16,
+  bytes32,
+  bit,
+  version,
+  padded,
+  extended,
+  csrcCount,
+  payloadType,
+  afterHeader,
+  bytesLeft,
+  padCount,
+  payload,
+  code,
+  ended,
+  reserved,
+  volume,
+  duration,
+  headerRefusal,
+  payloadRefusal,
+  readRefusal,
+  reportIn,
+  read,
+  packetOf,
+  reportInRange,
+  writeRefusal,
+  Writing,
+  write,
+}
 use Rattle.model.specs.Sizes.{BytesFit, ReportFits}
 use Rattle.model.specs.Demands.{Read-of-written, Written-of-read}
+use Rattle.model.proofs.Basics.{passed, both-none, not-refused}
 
 -- A WRITTEN PACKET
 
@@ -118,11 +157,6 @@ payload-fits bs f =
 
 -- A PACKET THAT IS READ
 
--- in a chain of tests with no refusal each test failed
-pub passed : (c : Bool) (n later : ℕ) → cond c (suc n) later ≡ none → (c ≡ false) × (later ≡ none)
-passed true n later e = absurd (omega arith)
-passed false n later e = (refl, e)
-
 header-passed : (bs : List ℕ) → headerRefusal bs ≡ none → (12 ≤ length bs) × (version bs ≡ 2)
 unfolding headerRefusal
 header-passed bs e =
@@ -144,15 +178,6 @@ pub read-in-range : (bs : List ℕ) → BytesFit bs → payloadRefusal (payload 
 read-in-range bs f e =
     let g = payload-passed (payload bs) e in
     (g .1, g .2, omega (arith, number16-fits (payload bs) 2 (payload-fits bs f)), omega arith)
-
--- together the two stages refuse nothing only if neither does
-pub both-none : (first second : ℕ) → (first orElse second) ≡ none → (first ≡ none) × (second ≡ none)
-both-none zero second e = (refl, e)
-both-none (suc n) second e = let k = rw (ne-eqb (suc n) none (omega arith)) at e in absurd (omega arith)
-
-pub not-refused : {A : Type 0} (n : ℕ) (zeros v : A) → telling n zeros v .refused ≡ false → n ≡ none
-not-refused zero zeros v e = refl
-not-refused (suc n) zeros v e = absurd (true≢false (rw (ne-eqb (suc n) none (omega arith)) at e))
 
 pub read-answered : (bs : List ℕ) → headerRefusal bs ≡ none → payloadRefusal (payload bs) ≡ none → read bs ≡ answered (reportIn bs)
 read-answered bs h p = rw (h, p) refl

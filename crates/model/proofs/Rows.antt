@@ -1,5 +1,5 @@
 -- The rows P1 to P12 of 01, "Both sides of each edge": one list of rows, computed from the definitions by one proof.
-use Prim.Native.Nat.{ℕ, zero, suc, _+_}
+use Prim.Native.Nat.{ℕ}
 use mathlib.Core.Path.{_≡_, refl}
 use mathlib.Core.Bool.{Bool, true, false}
 use mathlib.Core.List.{List, [], _∷_, map}

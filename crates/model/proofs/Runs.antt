@@ -1,8 +1,8 @@
 -- DEMAND 2. Along any list of receiving calls a table that passes the tests goes on passing them, and holds what is derived
 -- from the reports taken.
-use Prim.Native.Nat.{ℕ, _-_, _<_, _≤_}
-use mathlib.Core.Path.{_≡_, refl, sym, ap, subst, _∙_}
-use mathlib.Core.Bool.{Bool, true, false, not, cond, _||_}
+use Prim.Native.Nat.{ℕ}
+use mathlib.Core.Path.{_≡_, refl, ap, subst}
+use mathlib.Core.Bool.{Bool, true, false, cond}
 use mathlib.Core.List.{
   List,
   [],
@@ -18,26 +18,27 @@ use mathlib.Core.List.{
   Memᴰ·append-left,
   Memᴰ·append-right,
 }
-use mathlib.Core.Logic.{_⊎_, inl, inr, ⊎-elim}
+use mathlib.Core.Logic.{⊎-elim}
 use native.Mathlib.Omega.{arith}
-use lib.Dec.{ltb, eqb}
 use lib.ListN.{length}
 use borrow.Author.Tests.{le-ltb, ne-eqb}
 use Rattle.model.specs.declared.Segment.{Segment}
 use Rattle.model.specs.declared.Event.{Event}
 use Rattle.model.specs.declared.Table.{Table}
-use Rattle.model.specs.Segments.{segmentsOf, Derived}
-use Rattle.model.specs.Table.{valid, held, validSegment, put, taking}
+use Rattle.model.specs.Segments.{Derived}
+use Rattle.model.specs.Table.{valid, held, validSegment, taking}
 use Rattle.model.specs.Receive.{heardIn, receive}
 use Rattle.model.specs.Events.{eventsOf}
 use Rattle.model.specs.List.{events}
 use Rattle.model.specs.Sizes.{BytesFit, FitsTypes}
-use Rattle.model.specs.Demands.{tableAfter, arrivals, Empty, Lists, reportsTaken, Filled, Demand-2, Within, Demand-2-any-order}
-use Rattle.model.proofs.Order.{Mem, rises, rises-if}
-use Rattle.model.proofs.Segments.{derived-put, derived-unique, attained-more, is-segmentsOf}
+use Rattle.model.specs.Demands.{tableAfter, arrivals, Empty, Lists, reportsTaken, Demand-2, Within, Demand-2-any-order}
+use Rattle.model.proofs.Order.{rises, rises-if}
+use Rattle.model.proofs.Segments.{derived-put, derived-unique, is-segmentsOf}
+use Rattle.model.proofs.Keeping.{attained-more}
 use Rattle.model.proofs.Packets.{read-in-range}
-use Rattle.model.proofs.Tables.{Sound, ValidSegment, valid-if, held-taking, room, taking-sound}
-use Rattle.model.proofs.Receives.{Taken, taken-then, refused-leaves, not-refused, takes}
+use Rattle.model.proofs.Tables.{Sound, valid-if, held-taking, room, taking-sound}
+use Rattle.model.proofs.Receives.{Taken, taken-then, refused-leaves, taken-unless, takes}
+use Rattle.model.proofs.Basics.{Mem}
 
 -- ONE CALL
 
@@ -89,7 +90,7 @@ derived-taking u r rs d = rw (held-taking u r) (derived-put r rs (held u) d)
 pub step-taken : (t u : Table) (p : List ℕ) (rs : List Segment) → Reached t rs u → BytesFit p → receive u p .answer .refused ≡ false
     → Reached t (heardIn t p ∷ rs) (receive u p .table)
 step-taken t u p rs k f e =
-    let n = not-refused u p e in
+    let n = taken-unless u p e in
     rw (takes u p n) (record {
       sound = taken-sound u p (k .sound) f (taken-then u p n);
       origin = k .origin;

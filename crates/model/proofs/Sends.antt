@@ -1,32 +1,29 @@
 -- The packets of a sent event: they are in range, so the reader gives their reports back, and from the table's origin each
 -- is heard as what the plan says of its segment, at the event's own offsets.
-use Prim.Native.Nat.{ℕ, zero, suc, _+_, _-_, _*_, _%_, _<_, _≤_}
-use mathlib.Core.Path.{_≡_, refl, sym, ap, subst, _∙_}
-use mathlib.Core.Bool.{Bool, true, false, not, cond, _&&_, _||_}
-use mathlib.Core.List.{List, [], _∷_, _++_, map, append-nil}
+use Prim.Native.Nat.{ℕ, _+_, _-_, _%_, _<_, _≤_}
+use mathlib.Core.Path.{_≡_, ap, _∙_}
+use mathlib.Core.Bool.{true}
+use mathlib.Core.List.{map, append-nil}
 use native.Mathlib.Omega.{arith}
-use lib.Dec.{ltb, leb, eqb}
-use lib.ListN.{length, getD, drop, replicate}
+use lib.Dec.{leb}
+use lib.ListN.{length, getD, replicate}
 use borrow.Author.Tests.{leb-true, le-leb, le-ltb, ne-eqb}
-use Rattle.model.specs.declared.Report.{Report}
 use Rattle.model.specs.declared.Plan.{Plan}
 use Rattle.model.specs.declared.Segment.{Segment}
 use Rattle.model.specs.declared.Table.{Table}
 use Rattle.model.specs.Limits.{segmentSize, isCode}
-use Rattle.model.specs.Refusals.{none, noReport}
-use Rattle.model.specs.Packet.{reportIn, packetOf, reportInRange, payloadType, ssrc}
-use Rattle.model.specs.Plan.{fullSegments, restUnits, cutFrom, cut, sayings, onWire, allOnWire, reports, reportAt, planInRange, planRefusal, writePlanned}
+use Rattle.model.specs.Refusals.{noReport}
+use Rattle.model.specs.Packet.{reportIn, packetOf, reportInRange, ssrc}
+use Rattle.model.specs.Plan.{fullSegments, cutFrom, cut, sayings, onWire, reports, reportAt, planInRange, writePlanned}
 use Rattle.model.specs.Table.{noSegment}
 use Rattle.model.specs.Receive.{offset, heardFrom, heardIn}
 use Rattle.model.specs.Sizes.{Sent, end, planOf, ReportFits}
 use Rattle.model.specs.Demands.{sent, bytesOf}
-use Rattle.model.proofs.Order.{Mem, and-then}
-use Rattle.model.proofs.Segments.{mem-map}
-use Rattle.model.proofs.Tables.{and-both}
 use Rattle.model.proofs.Packets.{packet-report}
-use Rattle.model.proofs.Cuts.{InCut, cut-place, cut-within, cut-units, later, cut-later}
-use Rattle.model.proofs.Plans.{Says, sayings-say, sayings-first, length-wire, wire-at, mem-at}
+use Rattle.model.proofs.Cuts.{cut-place, cut-within, cut-units, later, cut-later}
+use Rattle.model.proofs.Plans.{Says, sayings-say, length-wire, wire-at, mem-at}
 use Rattle.model.proofs.Recovered.{segmentsSent}
+use Rattle.model.proofs.Basics.{Mem, mem-map, and-then, and-both}
 
 -- the ranges of a plan, one by one
 pub record PlanRanges (p : Plan) : Type 0 where

@@ -1,25 +1,22 @@
 -- What one report does to a table: the segments held are those with the report put in, a table that passes the tests
 -- passes them afterwards, and its 128 places stay 128.
-use Prim.Native.Nat.{ℕ, zero, suc, _+_, _-_, _<_, _≤_, min, max}
-use mathlib.Core.Path.{_≡_, refl, sym, ap, subst, _∙_}
+use Prim.Native.Nat.{suc, _<_, _≤_}
+use mathlib.Core.Path.{_≡_, refl, sym, ap, _∙_}
 use mathlib.Core.Bool.{Bool, true, false, not, cond, _&&_, _||_, false≢true}
-use mathlib.Core.List.{List, [], _∷_, _++_, List·Memᴰ·head, List·Memᴰ·tail, List·Memᴰ·cases-cons, List·Memᴰ·not-nil}
-use mathlib.Core.Logic.{_⊎_, inl, inr, ⊎-elim}
+use mathlib.Core.List.{List, [], _∷_, List·Memᴰ·head, List·Memᴰ·tail}
 use native.Mathlib.Omega.{arith}
-use lib.Dec.{ltb, leb, eqb}
-use lib.ListN.{length, take, drop, length-append, length-take, length-drop}
+use lib.Dec.{leb, eqb}
+use lib.ListN.{length, drop, length-append, length-take, length-drop}
 use lib.Seq.{take-append-seam}
-use borrow.Author.Tests.{ltb-true, leb-true, eqb-true, eqb-false, lt-ltb, le-leb, eq-eqb, ne-eqb, not-true, not-false}
+use borrow.Author.Tests.{ltb-true, leb-true, eqb-false, lt-ltb, le-leb}
 use Rattle.model.specs.declared.Segment.{Segment}
 use Rattle.model.specs.declared.Table.{Table}
 use Rattle.model.specs.Limits.{isCode}
-use Rattle.model.specs.Segments.{before, samePair, rising, merge}
-use Rattle.model.specs.Table.{held, validSegment, allValid, valid, holds, put, place, taking}
-use Rattle.model.proofs.Order.{Mem, _≺_, Alike, Compared, compared, and-then, alike-refl, alike-trans, alike-sym, ≺-not-alike, same-then, same-if, Below, below-cons, Rising, rises, rises-if}
+use Rattle.model.specs.Segments.{before, samePair, merge}
+use Rattle.model.specs.Table.{held, validSegment, allValid, valid, holds, noRoom, put, taking}
+use Rattle.model.proofs.Order.{Alike, Compared, compared, ≺-not-alike, same-then, below-cons, Rising, rises, rises-if}
 use Rattle.model.proofs.Segments.{put-rising}
-
-pub and-both : {a b : Bool} → a ≡ true → b ≡ true → (a && b) ≡ true
-and-both p q = rw (p, q)
+use Rattle.model.proofs.Basics.{Mem, and-then, and-both}
 
 or-false-then : (a b : Bool) → (a || b) ≡ false → (a ≡ false) × (b ≡ false)
 or-false-then true b e = absurd (false≢true (sym e))
@@ -119,9 +116,9 @@ pub record Passed (t : Table) : Type 0 where
   pub each : allValid (held t) ≡ true
   pub type : leb (t .«payload_type») 127 ≡ true
 
-pub passed : (t : Table) → valid t ≡ true → Passed t
+pub tests-passed : (t : Table) → valid t ≡ true → Passed t
 unfolding valid
-passed t v =
+tests-passed t v =
     let a = and-then _ _ v in
     let b = and-then _ _ (a .1) in
     let c = and-then _ _ (b .1) in
@@ -132,11 +129,11 @@ unfolding valid
 passes-if t p = and-both (le-leb (t .count) 128 (p .few)) (and-both (rises-if (held t) (p .rises)) (and-both (p .each) (p .type)))
 
 -- room for the report: fewer than 128 are held, or its pair is one of them
-pub room : (t : Table) (r : Segment) → Sound t → (eqb (t .count) 128 && not (holds r (held t))) ≡ false → length (put r (held t)) ≤ 128
+pub room : (t : Table) (r : Segment) → Sound t → noRoom t r ≡ false → length (put r (held t)) ≤ 128
 room t r s h = go (holds r (held t)) refl (eqb (t .count) 128) refl h
   where
     p : Passed t
-    p = passed t (s .passes)
+    p = tests-passed t (s .passes)
 
     long : length (held t) ≡ t .count
     long = held-length t (s .places) (p .few)
@@ -158,4 +155,4 @@ taking-sound t r s v h = record {
 }
   where
     p : Passed t
-    p = passed t (s .passes)
+    p = tests-passed t (s .passes)

@@ -1,14 +1,13 @@
 -- One delivery that demand 3 speaks of: two presses of key 5, the second from the very unit where the first ends, the first
 -- of two segments across the wrap of the wire's timestamps. Reports are lost, repeated and out of order, and strangers come
 -- between. Every hypothesis holds of it, the theorem is applied to it, and its list is computed as well.
-use Prim.Native.Nat.{ℕ, zero, suc, _+_, _%_, _<_, _≤_}
+use Prim.Native.Nat.{ℕ, _+_, _%_}
 use mathlib.Core.Path.{_≡_, refl, sym, ap, _∙_}
-use mathlib.Core.Bool.{Bool, true, false, false≢true}
+use mathlib.Core.Bool.{true, false, false≢true}
 use mathlib.Core.List.{List, [], _∷_, map, List·Memᴰ·head, List·Memᴰ·tail, List·Memᴰ·cases-cons, List·Memᴰ·not-nil}
-use mathlib.Core.Logic.{_⊎_, inl, inr, ⊎-elim}
+use mathlib.Core.Logic.{⊎-elim}
 use lib.Dec.{lit<, lit≤}
-use lib.ListN.{length, replicate}
-use Rattle.model.specs.declared.Report.{Report}
+use lib.ListN.{length}
 use Rattle.model.specs.declared.Segment.{Segment}
 use Rattle.model.specs.declared.Table.{Table}
 use Rattle.model.specs.Limits.{segmentSize}
@@ -21,8 +20,8 @@ use Rattle.model.specs.Events.{units, loudness, lastEnded, continuesNear
 use Rattle.model.specs.List.{events}
 use Rattle.model.specs.Sizes.{Sent, planOf, Apart, segmentsInAll, Sizes, FitsTypes}
 use Rattle.model.specs.Demands.{tableAfter, Empty, Lists, Handed, sent, stranger, Admitted, Needed, Delivered, asListed, packets}
-use Rattle.model.proofs.Order.{Mem}
 use Rattle.model.proofs.Demand3.{demand-3}
+use Rattle.model.proofs.Basics.{Mem}
 
 -- opened so that the wire's timestamps wrap 65,536 units after the origin
 abbrev pub table : Table

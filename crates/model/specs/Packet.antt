@@ -129,19 +129,23 @@ headerRefusal bs =
 --   |     event     |E|R| volume    |          duration             |
 --   +-+-+-+-+-+-+-+-+-+-+-+-+-+-+-+-+-+-+-+-+-+-+-+-+-+-+-+-+-+-+-+-+
 
+-- 2.3.1
 abbrev pub code : List ℕ → ℕ
 code p = byte p 0
 
+-- E, the end bit (2.3.2)
 abbrev pub ended : List ℕ → Bool
 ended p = eqb (byte p 1 / 128) 1
 
--- R, which the reader ignores
+-- R, which the reader ignores (2.3.3)
 abbrev pub reserved : List ℕ → Bool
 reserved p = eqb (byte p 1 / 64 % 2) 1
 
+-- 2.3.4
 abbrev pub volume : List ℕ → ℕ
 volume p = byte p 1 % 64
 
+-- 2.3.5
 abbrev pub duration : List ℕ → ℕ
 duration p = number16 p 2
 

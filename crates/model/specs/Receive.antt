@@ -1,26 +1,15 @@
 -- The receiving call (01, "The receiving table"). A report is looked at only when the packet was read as far as its
 -- payload (none of 1 to 4); then come 5 and 6, then 7 to 11.
 use Prim.Native.Nat.{ℕ, _+_, _-_, _%_}
-use mathlib.Core.Bool.{Bool, true, false, not, cond, _&&_}
-use mathlib.Core.List.{List, [], _∷_}
+use mathlib.Core.Bool.{Bool, false, not, cond}
+use mathlib.Core.List.{List}
 use lib.Dec.{leb, eqb}
 use Rattle.model.specs.declared.Report.{Report}
 use Rattle.model.specs.declared.Segment.{Segment}
 use Rattle.model.specs.declared.Table.{Table}
-use Rattle.model.specs.Refusals.{
-  otherPayloadType,
-  otherSsrc,
-  offsetTooLarge,
-  tableFull,
-  invalidTable,
-  none,
-  _if_else_,
-  _orElse_,
-  Told,
-  telling,
-}
+use Rattle.model.specs.Refusals.{otherPayloadType, otherSsrc, offsetTooLarge, tableFull, invalidTable, none, _if_else_, _orElse_, Told, telling}
 use Rattle.model.specs.Packet.{headerRefusal, payloadRefusal, payload, payloadType, ssrc, reportIn}
-use Rattle.model.specs.Table.{valid, held, holds, taking}
+use Rattle.model.specs.Table.{valid, held, holds, noRoom, taking}
 
 -- 01's term: a report's offset is (timestamp - origin) modulo 2^32
 abbrev pub offset : ℕ → ℕ → ℕ
@@ -48,7 +37,7 @@ receiveRefusal t bs =
     otherSsrc if not (eqb (ssrc bs) (t .ssrc)) else
     payloadRefusal (payload bs) orElse
     offsetTooLarge if leb 0x8000_0000 (heardIn t bs .offset) else
-    tableFull if eqb (t .count) 128 && not (holds (heardIn t bs) (held t)) else
+    tableFull if noRoom t (heardIn t bs) else
     none
 
 -- what the call tells (whether the segment is new), and the table after it

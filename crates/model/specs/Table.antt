@@ -1,7 +1,7 @@
 -- The receiving table: its opening, its tests, and what one report does to it (01, "The receiving table", and the tests
 -- under "Numbers handed back when something is refused"). The sizes 128 and 2^31 are 01's own.
 use Prim.Native.Nat.{ℕ}
-use mathlib.Core.Bool.{Bool, true, false, cond, _&&_, _||_}
+use mathlib.Core.Bool.{Bool, true, false, not, cond, _&&_, _||_}
 use mathlib.Core.List.{List, [], _∷_, _++_}
 use lib.Dec.{ltb, leb, eqb}
 use lib.ListN.{length, take, drop, replicate}
@@ -61,6 +61,10 @@ valid t = leb (t .count) 128 && (rising (held t) && (allValid (held t) && leb (t
 unfoldable pub holds : Segment → List Segment → Bool
 holds r [] = false
 holds r (s ∷ ts) = samePair r s || holds r ts
+
+-- 128 segments held and this pair is none of them
+abbrev pub noRoom : Table → Segment → Bool
+noRoom t r = eqb (t .count) 128 && not (holds r (held t))
 
 -- a known segment keeps the report too; a new one stands at its place in the order
 unfoldable pub put : Segment → List Segment → List Segment
