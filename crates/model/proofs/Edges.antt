@@ -64,7 +64,7 @@ packets =
     ∷ []
 
 pub packets-read : map (λ row. read (row .0)) packets ≡ map (λ row. row .1) packets
-unfolding headerRefusal afterHeader payload payloadRefusal
+unfolding read headerRefusal afterHeader payload payloadRefusal
 packets-read = refl
 
 -- THE RECEIVING CALL
@@ -99,7 +99,7 @@ calls =
     ∷ []
 
 pub calls-answer : map (λ row. receive (row .0 .0) (row .0 .1) .answer .number) calls ≡ map (λ row. row .1) calls
-unfolding receive receiveRefusal heardIn valid rising allValid holds headerRefusal afterHeader payload payloadRefusal
+unfolding packetOf receive receiveRefusal heardIn valid rising allValid holds headerRefusal afterHeader payload payloadRefusal
 calls-answer = refl
 
 -- EVENTS

@@ -82,21 +82,22 @@ pub record Ranges (r : Report) : Type 0 where
   pub most : r .duration ≤ 65535
 
 pub ranges : (r : Report) → reportInRange r ≡ true → Ranges r
+unfolding reportInRange
 ranges r h = let k = simp and-eq-true-iff at h in omega (arith, leb-true)
 
 -- version, P, X and CSRC count are written as constants, so nothing depends on the report
 pub packet-header : (r : Report) → reportInRange r ≡ true → headerRefusal (packetOf r) ≡ none
-unfolding headerRefusal afterHeader
+unfolding headerRefusal afterHeader packetOf
 packet-header r h = refl
 
 pub packet-payload : (r : Report) → reportInRange r ≡ true → payloadRefusal (payload (packetOf r)) ≡ none
-unfolding payloadRefusal payload afterHeader
+unfolding payloadRefusal payload afterHeader packetOf
 packet-payload r h =
     let k = ranges r h in
     rw (le-leb (r .code) 15 (k .code), number16-back (r .duration) (omega arith), ne-eqb (r .duration) 0 (omega arith)) refl
 
 pub packet-report : (r : Report) → ReportFits r → reportInRange r ≡ true → reportIn (packetOf r) ≡ r
-unfolding payload afterHeader
+unfolding payload afterHeader packetOf
 packet-report r f h =
     let k = ranges r h in
     let type : (bit (r .marker) * 128 + r .«payload_type») % 128 ≡ r .«payload_type» = omega arith in
@@ -129,6 +130,7 @@ fits-flag false low h = omega arith
 fits-flag true low h = omega arith
 
 pub packet-fits : (r : Report) → reportInRange r ≡ true → BytesFit (packetOf r)
+unfolding packetOf
 packet-fits r h =
     let k = ranges r h in
     fits-cons (omega arith) (fits-cons (fits-flag (r .marker) (r .«payload_type») (omega arith))
@@ -180,15 +182,18 @@ read-in-range bs f e =
     (g .1, g .2, omega (arith, number16-fits (payload bs) 2 (payload-fits bs f)), omega arith)
 
 pub read-answered : (bs : List ℕ) → headerRefusal bs ≡ none → payloadRefusal (payload bs) ≡ none → read bs ≡ answered (reportIn bs)
+unfolding read
 read-answered bs h p = rw (h, p) refl
 
 pub write-answered : (r : Report) (output : List ℕ) → reportInRange r ≡ true → 16 ≤ length output
     → write r output ≡ record { answer = answered tt; output = packetOf r ++ drop 16 output }
+unfolding write
 write-answered r output h room = rw (h, le-ltb (length output) 16 room) refl
 
 -- THERE AND BACK
 
 pub read-of-written : Read-of-written
+unfolding write packetOf
 read-of-written r output f e =
     let n = not-refused (writeRefusal r output) tt tt e in
     let a = passed (not (reportInRange r)) 11 _ n in
@@ -253,6 +258,7 @@ plain-byte b v p x c =
 
 packet-again : (bs : List ℕ) → BytesFit bs → headerRefusal bs ≡ none → payloadRefusal (payload bs) ≡ none
     → padded bs ≡ false → extended bs ≡ false → csrcCount bs ≡ 0 → reserved (payload bs) ≡ false → packetOf (reportIn bs) ≡ bs
+unfolding packetOf
 packet-again bs f h q p x c r =
     let k = header-passed bs h in
     let four = payload-passed (payload bs) q .0 in
@@ -262,6 +268,7 @@ packet-again bs f h q p x c r =
     ∙ first-bytes 12 bs (k .0)
 
 pub written-of-read : Written-of-read
+unfolding read reportInRange
 written-of-read bs output f e p x c r room =
     let none-read = not-refused (readRefusal bs) noReport (reportIn bs) e in
     let n = both-none (headerRefusal bs) (payloadRefusal (payload bs)) none-read in

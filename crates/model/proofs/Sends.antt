@@ -71,6 +71,7 @@ module _ (p : Plan) (k : ℕ) (low : 1 ≤ k) (high : k ≤ length (reports p)) 
   saying-says r = sayings-say segmentSize p (omega arith) (r .often) (sayingAt p k) (mem-at (sayings segmentSize p) (k - 1) noSegment within)
 
   pub report-in-range : PlanRanges p → reportInRange (reportAt p k) ≡ true
+  unfolding reportInRange
   report-in-range r =
       let q = saying-says r in
       let s = q .2 in

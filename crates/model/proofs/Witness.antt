@@ -86,7 +86,7 @@ unfolding valid rising allValid
 empty = record { empty = refl; passes = refl }
 
 admitted : Admitted sentEvents table table handed
-unfolding Admitted receive receiveRefusal heardIn valid rising allValid holds put headerRefusal afterHeader payload payloadRefusal writePlanned reportAt reports allOnWire markFirst reportsOfAll interim cutFrom
+unfolding Admitted receive receiveRefusal heardIn valid rising allValid holds put headerRefusal afterHeader payload payloadRefusal writePlanned packetOf reportAt reports allOnWire markFirst reportsOfAll interim cutFrom
 admitted = (refl, ((second, lit≤ tt, lit≤ tt), ((first, lit≤ tt, lit≤ tt), (refl, ((first, lit≤ tt, lit≤ tt), ((first, lit≤ tt, lit≤ tt), ((first, lit≤ tt, lit≤ tt), (refl, ((second, lit≤ tt, lit≤ tt), tt)))))))))
   where
     first : Mem long sentEvents
@@ -142,5 +142,5 @@ lists = demand-3 table sentEvents handed delivered
 
 -- THE LIST, COMPUTED
 pub list-computed : events (tableAfter table (packets table handed)) ≡ map asListed sentEvents
-unfolding tableAfter receive receiveRefusal heardIn valid rising allValid holds put headerRefusal afterHeader payload payloadRefusal writePlanned reportAt reports allOnWire markFirst reportsOfAll interim cutFrom units loudness lastEnded continuesNearest continuing eventsFrom
+unfolding tableAfter receive receiveRefusal heardIn valid rising allValid holds put headerRefusal afterHeader payload payloadRefusal writePlanned packetOf reportAt reports allOnWire markFirst reportsOfAll interim cutFrom units loudness lastEnded continuesNearest continuing eventsFrom
 list-computed = refl

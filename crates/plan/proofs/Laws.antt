@@ -1,0 +1,228 @@
+-- The formulas of specs/Formula.antt give the model's lists of reports.
+use Prim.Native.Nat.{ℕ, zero, suc, _+_, _-_, _*_, _/_, _%_, _<_, _≤_}
+use mathlib.Core.Path.{_≡_, refl, ap, _∙_}
+use mathlib.Core.Bool.{Bool, true, false, not, cond, _&&_}
+use mathlib.Core.List.{List, [], _∷_, _++_}
+use native.Mathlib.Omega.{arith}
+use native.Mathlib.Nat.{div-mul-le-self, div-add-mod', le-div-iff-mul-le, div-lt-iff-lt-mul, mod-lt}
+use native.Mathlib.Decide.{decLt}
+use lib.Dec.{ltb, eqb, leb·suc-suc, eqb·suc-zero}
+use lib.ListN.{length, getD, length-append, List·getD-append}
+use lib.Seq.{getD-append-add}
+use borrow.Author.Tests.{lt-ltb, le-ltb}
+use Rattle.model.specs.declared.Plan.{Plan}
+use Rattle.model.specs.declared.Segment.{Segment}
+use Rattle.model.specs.Plan.{
+  segment,
+  fullSegments,
+  restUnits,
+  cutFrom,
+  saying,
+  interim,
+  reportsOf,
+  reportsOfAll,
+  marking,
+  markFirst,
+  sayings,
+  onWire,
+  reports,
+}
+use Rattle.model.specs.Limits.{segmentSize}
+use Rattle.model.specs.Refusals.{noReport}
+use Rattle.model.proofs.Plans.{reports-of-segment, length-wire, wire-at}
+use Rattle.plan.specs.declared.Place.{Place}
+use Rattle.plan.specs.Formula.{interimCount, reportsIn, durationAt, perFull, reportTotal, placeOf, unitsAt, endedAt, sayingAt}
+
+-- ONE SEGMENT. Reports, segments and places are counted from 0.
+
+interim-at : (period : ℕ) (g : Segment) (j n i : ℕ) (d : Segment) → i < n → getD (interim period g j n) i d ≡ saying g ((i + j) * period) false
+unfolding interim
+interim-at period g j zero i d h = absurd (omega arith)
+interim-at period g j (suc n) zero d h =
+    let e : j ≡ zero + j = omega arith in
+    ap (λ (m : ℕ). saying g (m * period) false) e
+interim-at period g j (suc n) (suc i) d h =
+    let e : i + suc j ≡ suc i + j = omega arith in
+    interim-at period g (suc j) n i d (omega arith) ∙ ap (λ (m : ℕ). saying g (m * period) false) e
+
+length-interim : (period : ℕ) (g : Segment) (j n : ℕ) → length (interim period g j n) ≡ n
+unfolding interim
+length-interim period g j zero = refl
+length-interim period g j (suc n) = ap suc (length-interim period g (suc j) n)
+
+-- in the second of two lists, the first of length n
+past : (a b : List Segment) (n i : ℕ) (d : Segment) → length a ≡ n → getD (a ++ b) (n + i) d ≡ getD b i d
+past a b n i d h = rw (← h) (getD-append-add a b i d)
+
+-- what report i says of segment g
+abbrev ofSegment : ℕ → Segment → ℕ → Segment
+ofSegment period g i = saying g (durationAt period (g .duration) i) (g .ended && ltb (interimCount period (g .duration)) i)
+
+of-segment : (period : ℕ) (g : Segment) (i : ℕ) (d : Segment) → i < reportsIn period (g .duration)
+    → getD (reportsOf period g) i d ≡ ofSegment period g i
+unfolding durationAt
+of-segment period g i d h = go (decLt i n)
+  where
+    n : ℕ
+    n = interimCount period (g .duration)
+
+    early : List Segment
+    early = interim period g 1 n
+
+    last : List Segment
+    last = saying g (g .duration) false ∷ saying g (g .duration) (g .ended) ∷ saying g (g .duration) (g .ended) ∷ []
+
+    and-false : (b : Bool) → false ≡ (b && false)
+    and-false true = refl
+    and-false false = refl
+
+    and-true : (b : Bool) → b ≡ (b && true)
+    and-true true = refl
+    and-true false = refl
+
+    at-end : (j : ℕ) → j < 3 → getD last j d ≡ saying g (g .duration) (g .ended && ltb n (n + j))
+    at-end zero l = rw (le-ltb n (n + 0) (omega arith)) (ap (saying g (g .duration)) (and-false (g .ended)))
+    at-end (suc zero) l = rw (lt-ltb n (n + 1) (omega arith)) (ap (saying g (g .duration)) (and-true (g .ended)))
+    at-end (suc (suc zero)) l = rw (lt-ltb n (n + 2) (omega arith)) (ap (saying g (g .duration)) (and-true (g .ended)))
+    at-end (suc (suc (suc j))) l = absurd (omega arith)
+
+    late : (j : ℕ) → n + j ≡ i → getD (early ++ last) i d ≡ saying g (g .duration) (g .ended && ltb n i)
+    late j e = rw (← e) (past early last n j d (length-interim period g 1 n) ∙ at-end j (omega arith))
+
+    go : Dec (i < n) → getD (early ++ last) i d ≡ ofSegment period g i
+    go (yes l) =
+        rw (lt-ltb i n l, le-ltb n i (omega arith))
+        (List·getD-append early last d i (rw length-interim l)
+        ∙ interim-at period g 1 n i d l
+        ∙ ap (saying g ((i + 1) * period)) (and-false (g .ended)))
+    go (no l) = rw (le-ltb i n (omega arith)) (late (i - n) (omega arith))
+
+-- THE MARK
+
+-- it is put on report 0, and nothing else changes
+length-mark : (rs : List Segment) → length (markFirst rs) ≡ length rs
+unfolding markFirst
+length-mark [] = refl
+length-mark (r ∷ rs) = refl
+
+mark-at : (rs : List Segment) (i : ℕ) (d r : Segment) → i < length rs → getD rs i d ≡ r → r .marked ≡ false
+    → getD (markFirst rs) i d ≡ segment (r .offset) (r .code) (r .duration) (r .volume) (r .ended) (eqb i 0)
+unfolding markFirst
+mark-at [] i d r h e f = absurd (omega arith)
+mark-at (x ∷ rs) zero d r h e f = ap marking e
+mark-at (x ∷ rs) (suc i) d r h e f = rw (eqb·suc-zero i, ← f) e
+
+-- ALL SEGMENTS
+
+-- report i of the segment that stands first
+of-first : (period : ℕ) (g : Segment) (more : List Segment) (k i : ℕ) (d : Segment) → i < reportsIn period (g .duration)
+    → getD (reportsOf period g ++ more) (0 * k + i) d ≡ ofSegment period g i
+of-first period g more k i d h =
+    let e : 0 * k + i ≡ i = omega arith in
+    rw (e, List·getD-append (reportsOf period g) more d i (omega (arith, reports-of-segment period g))) (of-segment period g i d h)
+
+module _ (size : ℕ) (p : Plan) where
+  length-all : (n o : ℕ) (m : Bool) → length (reportsOfAll (p .period) (cutFrom size p n o m))
+      ≡ n * perFull size p + reportsIn (p .period) (restUnits size p)
+  unfolding cutFrom reportsOfAll
+  length-all zero o m =
+      let g = segment o (p .code) (restUnits size p) (p .volume) true m in
+      rw length-append (omega (arith, reports-of-segment (p .period) g))
+  length-all (suc n) o m =
+      let g = segment o (p .code) size (p .volume) false m in
+      rw length-append (omega (arith, reports-of-segment (p .period) g, length-all n (o + size) false))
+
+  -- segment j of n full ones and the last, from offset o on
+  abbrev unitsOf : ℕ → ℕ → ℕ
+  unitsOf n j = cond (ltb j n) size (restUnits size p)
+
+  abbrev segmentAt : ℕ → ℕ → ℕ → Segment
+  segmentAt n o j = segment (o + j * size) (p .code) (unitsOf n j) (p .volume) (not (ltb j n)) false
+
+  -- report i of segment j
+  in-all : (n o : ℕ) (m : Bool) (j i : ℕ) (d : Segment) → j ≤ n → i < reportsIn (p .period) (unitsOf n j)
+      → getD (reportsOfAll (p .period) (cutFrom size p n o m)) (j * perFull size p + i) d ≡ ofSegment (p .period) (segmentAt n o j) i
+  unfolding cutFrom reportsOfAll
+  in-all zero o m zero i d a h =
+      let f : o + 0 * size ≡ o = omega arith in
+      rw f (of-first (p .period) (segment o (p .code) (restUnits size p) (p .volume) true m) [] (perFull size p) i d h)
+  in-all zero o m (suc j) i d a h = absurd (omega arith)
+  in-all (suc n) o m zero i d a h =
+      let f : o + 0 * size ≡ o = omega arith in
+      let t = lt-ltb 0 (suc n) (omega arith) in
+      rw (f, t)
+      (of-first (p .period) (segment o (p .code) size (p .volume) false m) (reportsOfAll (p .period) (cutFrom size p n (o + size) false)) (perFull size p) i d (rw t at h))
+  in-all (suc n) o m (suc j) i d a h =
+      let g = segment o (p .code) size (p .volume) false m in
+      let e : suc j * perFull size p + i ≡ perFull size p + (j * perFull size p + i) = omega arith in
+      let f : o + suc j * size ≡ o + size + j * size = omega arith in
+      let t = leb·suc-suc (suc j) n in
+      rw (e, f, t)
+      (past (reportsOf (p .period) g) (reportsOfAll (p .period) (cutFrom size p n (o + size) false)) (perFull size p) (j * perFull size p + i) d (reports-of-segment (p .period) g)
+      ∙ in-all n (o + size) false j i d (omega arith) (rw t at h))
+
+  -- THE EVENT
+
+  pub length-sayings : length (sayings size p) ≡ reportTotal size p
+  length-sayings = length-mark (reportsOfAll (p .period) (cutFrom size p (fullSegments size p) 0 true)) ∙ length-all (fullSegments size p) 0 true
+
+  -- report i stands in a segment of the event, among that segment's reports
+  pub record InPlace (i : ℕ) (at : Place) : Type 0 where
+    pub segment : at .segment ≤ fullSegments size p
+    pub index : at .index < reportsIn (p .period) (unitsAt size p (at .segment))
+    pub both : at .segment * perFull size p + at .index ≡ i
+
+  module _ (some : 1 ≤ size) (steps : 1 ≤ p .period) (i : ℕ) (h : i < reportTotal size p) where
+    -- the last segment is no longer than a full one, so it has no more reports
+    last-steps : interimCount (p .period) (restUnits size p) * p .period ≤ size - 1
+    last-steps = omega (arith, div-mul-le-self (restUnits size p - 1) (p .period), mod-lt (p .length - 1) some)
+
+    last-at-most : reportsIn (p .period) (restUnits size p) ≤ perFull size p
+    last-at-most = omega (arith, le-div-iff-mul-le steps .1 last-steps)
+
+    pub in-place : InPlace i (placeOf size p i)
+    unfolding unitsAt
+    in-place = record { segment = upper; index = go (decLt q n); both = div-add-mod' i (perFull size p) }
+      where
+        q : ℕ
+        q = i / perFull size p
+
+        n : ℕ
+        n = fullSegments size p
+
+        upper : q ≤ n
+        upper =
+            let l : q < suc n = div-lt-iff-lt-mul {k = perFull size p} {x = i} {y = suc n} (omega arith) .1 (omega (arith, last-at-most)) in
+            omega arith
+
+        go : Dec (q < n) → i % perFull size p < reportsIn (p .period) (unitsOf n q)
+        go (yes l) = rw (lt-ltb q n l) (mod-lt i (omega arith))
+        go (no l) =
+            let e : n ≡ q = omega (arith, upper) in
+            rw (le-ltb q n (omega arith)) (omega (arith, div-add-mod' i (perFull size p), ap (λ (k : ℕ). k * perFull size p) e))
+
+    pub saying-at : (d : Segment) → getD (sayings size p) i d ≡ sayingAt size p (placeOf size p i) i
+    unfolding unitsAt endedAt
+    saying-at d =
+        let n = fullSegments size p in
+        let at = placeOf size p i in
+        let rs = reportsOfAll (p .period) (cutFrom size p n 0 true) in
+        let e = in-all n 0 true (at .segment) (at .index) d (in-place .segment) (in-place .index) in
+        let f : 0 + at .segment * size ≡ at .segment * size = omega arith in
+        rw f at
+        (mark-at rs i d (ofSegment (p .period) (segmentAt n 0 (at .segment)) (at .index)) (omega (arith, length-all n 0 true)) (rw (in-place .both) at e) refl)
+
+-- ON THE WIRE
+
+pub length-reports : (p : Plan) → length (reports p) ≡ reportTotal segmentSize p
+unfolding reports
+length-reports p = length-wire p 0 (sayings segmentSize p) ∙ length-sayings segmentSize p
+
+pub report-at : (p : Plan) → 1 ≤ p .period → (i : ℕ) → i < reportTotal segmentSize p
+    → getD (reports p) i noReport ≡ onWire p i (sayingAt segmentSize p (placeOf segmentSize p i) i)
+unfolding reports
+report-at p steps i h =
+    let rs = sayings segmentSize p in
+    let d = segment 0 0 0 0 false false in
+    let e : 0 + i ≡ i = omega arith in
+    rw (wire-at p 0 i rs noReport d (omega (arith, length-sayings segmentSize p)), e, saying-at segmentSize p (omega arith) steps i h d)

@@ -1,0 +1,24 @@
+-- No E on a segment that another follows; on the last, past the interim reports and the first at the end.
+use Rattle.plan.proofs.Ways.{planning}
+use Rattle.plan.proofs.ended_at.Statement.{statement}
+use Rattle.plan.proofs.ended_at.Tie as tie
+
+full-segments-requires : tie.Need-full-segments-requires
+full-segments-requires c κs = search planning
+
+returns : tie.Need-returns
+returns c = search planning
+
+units-of-requires : tie.Need-units-of-requires
+units-of-requires c κs = search planning
+
+interim-count-requires : tie.Need-interim-count-requires
+interim-count-requires c κs = search planning
+
+returns-2 : tie.Need-returns-2
+returns-2 c = search planning
+
+pub ended-at-spec : {M : Type 1} → statement M
+ended-at-spec =
+    tie.close
+    (tie.spec full-segments-requires returns units-of-requires interim-count-requires returns-2)

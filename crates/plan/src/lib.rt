@@ -1,0 +1,201 @@
+// The sender's plan for one event by formula, with no list: how many reports it has, and the report at a number.
+ghost use Prim.Native.Nat.{_+_, _%_, _≤_};
+ghost use mathlib.Core.Path.{_≡_};
+ghost use mathlib.Core.Bool.{true};
+ghost use lib.ListN.{length};
+ghost use Rattle.model.specs.Limits.{segmentSize};
+ghost use Rattle.model.specs.Refusals.{toldCount, toldWrite};
+ghost use Rattle.model.specs.Plan.{fullSegments, restUnits, planInRange, countReports, reports, reportAt, writePlanned};
+ghost use Rattle.plan.specs.Formula.{interimCount, reportsIn, durationAt, placeOf, unitsAt, endedAt};
+use model::CountAnswer;
+use model::Plan;
+use model::Report;
+use model::WriteAnswer;
+
+// What a full segment holds, in timestamp units.
+const SEGMENT_SIZE: u32 = 65535;
+
+// Where a report stands: its segment, and its place among that segment's reports. Both count from 0.
+struct Place {
+    segment: u32,
+    index: u32,
+}
+
+// Whether each number of the plan is in its range.
+fn in_range(p: Plan) -> bool
+    ensures { λ r. ⌜ r ≡ planInRange p ⌝ }
+{
+    if 127 < p.payload_type {
+        return false;
+    }
+    if 15 < p.code {
+        return false;
+    }
+    if 63 < p.volume {
+        return false;
+    }
+    if p.length < 1 {
+        return false;
+    }
+    if 1048560 < p.length {
+        return false;
+    }
+    if p.period < 1 {
+        return false;
+    }
+    p.period <= 65535
+}
+
+// The segments before the last. The last holds at least one unit, so a length of 65,535 has none before it.
+fn full_segments(p: Plan) -> u32
+    requires { ⌜ 1 ≤ p .length ⌝ }
+    ensures { λ r. ⌜ r ≡ fullSegments segmentSize p ⌝ }
+{
+    (p.length - 1) / SEGMENT_SIZE
+}
+
+// The units of the last segment: what the full ones leave, 1 to 65,535.
+fn rest_units(p: Plan) -> u32
+    requires { ⌜ 1 ≤ p .length ⌝ }
+    ensures { λ r. ⌜ r ≡ restUnits segmentSize p ⌝ }
+{
+    (p.length - 1) % SEGMENT_SIZE + 1
+}
+
+// The reports of a segment before its end: one at each multiple of the period below its length.
+fn interim_count(units: u32, period: u32) -> u32
+    requires { ⌜ 1 ≤ units ⌝ }
+    requires { ⌜ 1 ≤ period ⌝ }
+    ensures { λ r. ⌜ r ≡ interimCount period units ⌝ }
+{
+    (units - 1) / period
+}
+
+// All reports of a segment: three more at its end.
+fn reports_in(units: u32, period: u32) -> u32
+    requires { ⌜ 1 ≤ units ⌝ }
+    requires { ⌜ units ≤ 65535 ⌝ }
+    requires { ⌜ 1 ≤ period ⌝ }
+    ensures { λ r. ⌜ r ≡ reportsIn period units ⌝ }
+{
+    interim_count(units, period) + 3
+}
+
+// The plan's reports: each full segment has the same number, the last its own.
+fn total(p: Plan) -> u32
+    requires { ⌜ planInRange p ≡ true ⌝ }
+    ensures { λ r. ⌜ r ≡ length (reports p) ⌝ }
+{
+    full_segments(p) * reports_in(SEGMENT_SIZE, p.period) + reports_in(rest_units(p), p.period)
+}
+
+// How many reports the plan has, or 12.
+pub fn report_count(p: Plan) -> CountAnswer
+    ensures { λ r. ⌜ toldCount r ≡ countReports p ⌝ }
+{
+    if !in_range(p) {
+        return CountAnswer::Refused(model::OUT_OF_RANGE);
+    }
+    CountAnswer::Reports(total(p))
+}
+
+// Where report i stands, from 0: no segment has more reports than a full one, so one division tells.
+fn place_of(p: Plan, i: u32) -> Place
+    requires { ⌜ 1 ≤ p .period ⌝ }
+    ensures { λ r. ⌜ r ≡ placeOf segmentSize p i ⌝ }
+{
+    let per = reports_in(SEGMENT_SIZE, p.period);
+    Place {
+        segment: i / per,
+        index: i % per,
+    }
+}
+
+// The units of a segment: every one but the last is full.
+fn units_of(p: Plan, segment: u32) -> u32
+    requires { ⌜ 1 ≤ p .length ⌝ }
+    ensures { λ r. ⌜ r ≡ unitsAt segmentSize p segment ⌝ }
+{
+    if segment < full_segments(p) {
+        return SEGMENT_SIZE;
+    }
+    rest_units(p)
+}
+
+// The duration a report says: the next multiple of the period, or at the end the segment's length.
+fn duration_at(units: u32, period: u32, index: u32) -> u32
+    requires { ⌜ 1 ≤ units ⌝ }
+    requires { ⌜ 1 ≤ period ⌝ }
+    ensures { λ r. ⌜ r ≡ durationAt period units index ⌝ }
+{
+    if index < interim_count(units, period) {
+        return (index + 1) * period;
+    }
+    units
+}
+
+// E: on the last two reports of the last segment.
+fn ended_at(p: Plan, at: Place) -> bool
+    requires { ⌜ planInRange p ≡ true ⌝ }
+    ensures { λ r. ⌜ r ≡ endedAt segmentSize p at ⌝ }
+{
+    if at.segment < full_segments(p) {
+        return false;
+    }
+    interim_count(units_of(p, at.segment), p.period) < at.index
+}
+
+// The sequence number after so many reports, modulo 65,536.
+fn sequence_after(first: u16, before: u32) -> u16
+    ensures { λ r. ⌜ r ≡ (first + before) % 65536 ⌝ }
+{
+    ((first as u64 + before as u64) % 65536) as u16
+}
+
+// The timestamp so many units after the start, modulo 2^32.
+fn timestamp_at(start: u32, offset: u32) -> u32
+    ensures { λ r. ⌜ r ≡ (start + offset) % 0x1_0000_0000 ⌝ }
+{
+    ((start as u64 + offset as u64) % 0x1_0000_0000) as u32
+}
+
+// Report k of the plan, from 1: all of it follows from where the report stands.
+fn planned(p: Plan, k: u32) -> Report
+    requires { ⌜ planInRange p ≡ true ⌝ }
+    requires { ⌜ 1 ≤ k ⌝ }
+    requires { ⌜ k ≤ length (reports p) ⌝ }
+    ensures { λ r. ⌜ r ≡ reportAt p k ⌝ }
+{
+    let i = k - 1;
+    let at = place_of(p, i);
+    let units = units_of(p, at.segment);
+    Report {
+        marker: i == 0,
+        payload_type: p.payload_type,
+        sequence: sequence_after(p.sequence, i),
+        timestamp: timestamp_at(p.start, at.segment * SEGMENT_SIZE),
+        ssrc: p.ssrc,
+        code: p.code,
+        ended: ended_at(p, at),
+        volume: p.volume,
+        duration: duration_at(units, p.period, at.index),
+    }
+}
+
+// Writes report k of the plan, counted from 1, at the start of the output, or refuses with 12, 13 or 14.
+pub fn write_report(p: Plan, k: u32, out: &mut [u8]) -> WriteAnswer
+    ensures { λ a. ⌜ toldWrite a ≡ writePlanned p k (now (out .entry)) .answer ⌝ }
+    ensures { λ a. ⌜ now (out .exit) ≡ writePlanned p k (now (out .entry)) .output ⌝ }
+{
+    if !in_range(p) {
+        return WriteAnswer::Refused(model::OUT_OF_RANGE);
+    }
+    if k == 0 {
+        return WriteAnswer::Refused(model::NO_SUCH_NUMBER);
+    }
+    if total(p) < k {
+        return WriteAnswer::Refused(model::NO_SUCH_NUMBER);
+    }
+    let r = planned(p, k);
+    packet::write(r, out)
+}
