@@ -1,0 +1,9 @@
+// Runs both sides of each edge of document 01 and prints a line for each; the file stdout has what must come.
+mod packets;
+mod plans;
+mod show;
+
+fn main() {
+    packets::run();
+    plans::run();
+}
