@@ -1,0 +1,45 @@
+/* Reading a 16-byte packet: ours against plain C behind the same boundary, in turns, the best of many rounds of each. */
+#include "../include/twimbor.h"
+#include <stdio.h>
+#include <time.h>
+
+twimbor_read_result plain_read(const uint8_t *p, size_t n);
+
+enum { PACKETS = 256, TURNS = 4000, ROUNDS = 30 };
+static uint8_t packets[PACKETS][16];
+
+static double now(void)
+{
+    struct timespec t;
+    clock_gettime(CLOCK_MONOTONIC, &t);
+    return t.tv_sec * 1e9 + t.tv_nsec;
+}
+
+static double round_of(twimbor_read_result (*read)(const uint8_t *, size_t), uint64_t *sum)
+{
+    double start = now();
+    for (int turn = 0; turn < TURNS; turn++)
+        for (int i = 0; i < PACKETS; i++) {
+            twimbor_read_result r = read(packets[i], 16);
+            *sum += r.refusal + r.report.duration + r.report.timestamp + r.report.volume;
+        }
+    return (now() - start) / ((double)TURNS * PACKETS);
+}
+
+int main(void)
+{
+    uint64_t ours = 0, plain = 0;
+    double best_ours = 1e18, best_plain = 1e18;
+    for (int i = 0; i < PACKETS; i++) {
+        twimbor_report r = {i % 7 == 0, 101, (uint16_t)i, 1000u * i, 7, i % 16, i % 3 == 0, i % 64, 1 + i};
+        if (twimbor_write(r, packets[i], 16) != 0) return 1;
+    }
+    for (int k = 0; k < ROUNDS; k++) {
+        double a = round_of(twimbor_read, &ours), b = round_of(plain_read, &plain);
+        if (a < best_ours) best_ours = a;
+        if (b < best_plain) best_plain = b;
+    }
+    if (ours != plain) { printf("the two readers differ\n"); return 1; }
+    printf("read, 16 bytes: %.2f ns, plain C %.2f ns, ratio %.2f\n", best_ours, best_plain, best_ours / best_plain);
+    return 0;
+}

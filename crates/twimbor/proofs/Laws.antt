@@ -1,0 +1,36 @@
+-- What is told of an answer, case by case, is what the struct in its place holds.
+use Prim.Native.Nat.{ℕ}
+use mathlib.Core.Path.{_≡_, refl, sym, ap, _∙_}
+use borrow.Author.Needs.{needs}
+use Rattle.model.specs.declared.Report.{Report}
+use Rattle.model.specs.declared.ReadAnswer.{ReadAnswer}
+use Rattle.model.specs.declared.ReadAnswer.the-variants as readAnswer
+use Rattle.model.specs.declared.WriteAnswer.{WriteAnswer}
+use Rattle.model.specs.declared.WriteAnswer.the-variants as writeAnswer
+use Rattle.model.specs.declared.CountAnswer.{CountAnswer}
+use Rattle.model.specs.declared.CountAnswer.the-variants as countAnswer
+use Rattle.model.specs.Refusals.{Told, noReport, toldRead, toldWrite, toldCount}
+use Rattle.twimbor.specs.Results.{readResult, countResult}
+
+module _ (a : ReadAnswer) (t : Told Report) (told : toldRead a ≡ t) where
+  pub read-given : (r : Report) → a ≡ readAnswer.Read r → record { report = r; refusal = 0 } ≡ readResult t
+  read-given r e = ap (λ (x : ReadAnswer). readResult (toldRead x)) (sym e) ∙ ap readResult told
+
+  pub read-refused : (n : ℕ) → a ≡ readAnswer.Refused n → (z : Report) → z ≡ noReport → record { report = z; refusal = n } ≡ readResult t
+  read-refused n e z f = rw f (ap (λ (x : ReadAnswer). readResult (toldRead x)) (sym e) ∙ ap readResult told)
+
+module _ (a : WriteAnswer) (t : Told (Unit {0})) (told : toldWrite a ≡ t) where
+  pub write-given : a ≡ writeAnswer.Written → 0 ≡ t .number
+  write-given e = ap (λ (x : WriteAnswer). toldWrite x .number) (sym e) ∙ ap (λ (x : Told (Unit {0})). x .number) told
+
+  pub write-refused : (n : ℕ) → a ≡ writeAnswer.Refused n → n ≡ t .number
+  write-refused n e = ap (λ (x : WriteAnswer). toldWrite x .number) (sym e) ∙ ap (λ (x : Told (Unit {0})). x .number) told
+
+module _ (a : CountAnswer) (t : Told ℕ) (told : toldCount a ≡ t) where
+  pub count-given : (n : ℕ) → a ≡ countAnswer.Reports n → record { reports = n; refusal = 0 } ≡ countResult t
+  count-given n e = ap (λ (x : CountAnswer). countResult (toldCount x)) (sym e) ∙ ap countResult told
+
+  pub count-refused : (n : ℕ) → a ≡ countAnswer.Refused n → record { reports = 0; refusal = n } ≡ countResult t
+  count-refused n e = ap (λ (x : CountAnswer). countResult (toldCount x)) (sym e) ∙ ap countResult told
+
+pub ruleset answers = (needs, read-given, read-refused, write-given, write-refused, count-given, count-refused)
