@@ -4,10 +4,67 @@ use model::ReadAnswer;
 use model::Report;
 use model::WriteAnswer;
 
-// Room for every packet here: the twelve bytes of a header with this first byte, then zeros.
-fn header(first: u8) -> [u8; 64] {
+const READS: usize = 34;
+
+// A row has the packet's first byte, two places with the four bytes that stand there, and how many bytes are read. The other
+// bytes of the header say M, payload type 101, sequence 1, timestamp 16, SSRC 7; all else is 0.
+const READ: [u32; 204] = [
+    0x80, 12, 0x05CA0190, 40, 0, 0,                 // no bytes
+    0x80, 12, 0x05CA0190, 40, 0, 11,
+    0x80, 12, 0x05CA0190, 40, 0, 12,                // the header alone
+    0x80, 12, 0x05CA0190, 40, 0, 16,                // key 5, E and R set, volume 10, duration 400
+    0x40, 12, 0x05CA0190, 40, 0, 16,                // version 1
+    0xC0, 12, 0x05CA0190, 40, 0, 16,                // version 3
+    0x82, 20, 0x05CA0190, 40, 0, 19,                // two CSRCs, the second cut
+    0x82, 20, 0x05CA0190, 40, 0, 20,
+    0x82, 20, 0x05CA0190, 40, 0, 24,
+    0x90, 12, 0x09090001, 20, 0x05CA0190, 15,       // an extension, its own four bytes cut
+    0x90, 12, 0x09090001, 20, 0x05CA0190, 19,       // its word cut
+    0x90, 12, 0x09090001, 20, 0x05CA0190, 20,
+    0x90, 12, 0x09090001, 20, 0x05CA0190, 24,
+    0x90, 12, 0x09090000, 16, 0x05CA0190, 20,       // an extension of no words
+    0x90, 12, 0x0909FFFF, 16, 0x05CA0190, 64,       // of 65,535
+    0xA0, 12, 0x05CA0190, 40, 0, 12,                // P, and nothing after the header
+    0xA0, 12, 0x05CA0190, 16, 0, 20,                // pad count 0
+    0xA0, 12, 0x05CA0190, 16, 4, 20,                // of 8 bytes
+    0xA0, 12, 0x05CA0190, 16, 5, 20,
+    0xA0, 12, 0x05CA0190, 16, 8, 20,
+    0xA0, 12, 0x05CA0190, 16, 9, 20,
+    0x80, 12, 0x05CA0190, 40, 0, 15,                // payloads of 3, 5 and 8 bytes
+    0x80, 12, 0x05CA0190, 40, 0, 17,
+    0x80, 12, 0x05CA0190, 16, 0x05CA0190, 20,
+    0x80, 12, 0x0F0A0190, 40, 0, 16,                // code 15
+    0x80, 12, 0x100A0190, 40, 0, 16,                // code 16
+    0x80, 12, 0x100A0000, 40, 0, 16,                // code 16 and duration 0
+    0x80, 12, 0x0F0A0000, 40, 0, 16,                // duration 0
+    0x80, 12, 0x0F0A0001, 40, 0, 16,
+    0x80, 12, 0x0F0AFFFF, 40, 0, 16,
+    0x92, 20, 0x09090001, 28, 0x05CA0190, 32,       // two CSRCs and an extension of one word
+    0x8F, 12, 0x05CA0190, 40, 0, 64,                // fifteen CSRCs
+    0xBF, 12, 0x05CA0190, 40, 0, 64,                // and an extension past the end
+    0x00, 12, 0x05CA0190, 40, 0, 11,                // 1 before 2
+];
+
+// A number as a place or a length.
+pub fn size(n: u32) -> usize {
+    n as usize
+}
+
+// The packet with four bytes at a place.
+fn with(b: [u8; 64], at: usize, w: u32) -> [u8; 64] {
+    let mut c = b;
+    if at <= 60 {
+        c[at] = (w / 16777216 % 256) as u8;
+        c[at + 1] = (w / 65536 % 256) as u8;
+        c[at + 2] = (w / 256 % 256) as u8;
+        c[at + 3] = (w % 256) as u8;
+    }
+    c
+}
+
+fn header(first: u32) -> [u8; 64] {
     let mut b = [0u8; 64];
-    b[0] = first;
+    b[0] = (first % 256) as u8;
     b[1] = 0xE5;
     b[3] = 1;
     b[7] = 16;
@@ -15,29 +72,6 @@ fn header(first: u8) -> [u8; 64] {
     b
 }
 
-// The packet with these four bytes at a place.
-fn with(b: [u8; 64], at: usize, w: [u8; 4]) -> [u8; 64] {
-    let mut c = b;
-    if at <= 60 {
-        c[at] = w[0];
-        c[at + 1] = w[1];
-        c[at + 2] = w[2];
-        c[at + 3] = w[3];
-    }
-    c
-}
-
-// Key 5, E and R set, volume 10, duration 400.
-const GOOD: [u8; 4] = [5, 0xCA, 1, 0x90];
-
-fn number(a: ReadAnswer) -> u64 {
-    match a {
-        ReadAnswer::Read(_r) => 0,
-        ReadAnswer::Refused(n) => n as u64,
-    }
-}
-
-// Reads the first len bytes.
 fn read(b: [u8; 64], len: usize) -> ReadAnswer {
     if 64 < len {
         return ReadAnswer::Refused(0);
@@ -45,145 +79,116 @@ fn read(b: [u8; 64], len: usize) -> ReadAnswer {
     packet::read(&b[0..len])
 }
 
-fn case(name: &[u8], b: [u8; 64], len: usize) {
-    show::line(name, number(read(b, len)));
-}
-
-fn headers() {
-    let plain = with(header(0x80), 12, GOOD);
-    case(b"read no bytes", plain, 0);
-    case(b"read 11 bytes", plain, 11);
-    case(b"read 12 bytes", plain, 12);
-    case(b"read 16 bytes", plain, 16);
-    case(b"read version 1", with(header(0x40), 12, GOOD), 16);
-    case(b"read version 3", with(header(0xC0), 12, GOOD), 16);
-    let listed = with(header(0x82), 20, GOOD);
-    case(b"read two CSRCs, the second cut", listed, 19);
-    case(b"read two CSRCs, no payload", listed, 20);
-    case(b"read two CSRCs", listed, 24);
-    let extended = with(with(header(0x90), 12, [9, 9, 0, 1]), 20, GOOD);
-    case(b"read an extension, its own four bytes cut", extended, 15);
-    case(b"read an extension, its word cut", extended, 19);
-    case(b"read an extension, no payload", extended, 20);
-    case(b"read an extension of one word", extended, 24);
-    case(
-        b"read an extension of no words",
-        with(with(header(0x90), 12, [9, 9, 0, 0]), 16, GOOD),
-        20,
-    );
-    case(
-        b"read an extension of 65535 words",
-        with(header(0x90), 12, [9, 9, 255, 255]),
-        64,
-    );
-}
-
-fn paddings() {
-    let padded = with(header(0xA0), 12, GOOD);
-    case(b"read P and nothing after the header", padded, 12);
-    case(b"read pad count 0", with(padded, 16, [0, 0, 0, 0]), 20);
-    case(b"read pad count 4 of 8", with(padded, 16, [0, 0, 0, 4]), 20);
-    case(b"read pad count 5 of 8", with(padded, 16, [0, 0, 0, 5]), 20);
-    case(b"read pad count 8 of 8", with(padded, 16, [0, 0, 0, 8]), 20);
-    case(b"read pad count 9 of 8", with(padded, 16, [0, 0, 0, 9]), 20);
-}
-
-fn payloads() {
-    let b = header(0x80);
-    case(b"read payload of 3 bytes", with(b, 12, GOOD), 15);
-    case(b"read payload of 5 bytes", with(b, 12, GOOD), 17);
-    case(
-        b"read payload of 8 bytes",
-        with(with(b, 12, GOOD), 16, GOOD),
-        20,
-    );
-    case(b"read code 15", with(b, 12, [15, 10, 1, 0x90]), 16);
-    case(b"read code 16", with(b, 12, [16, 10, 1, 0x90]), 16);
-    case(
-        b"read code 16 and duration 0",
-        with(b, 12, [16, 10, 0, 0]),
-        16,
-    );
-    case(b"read duration 0", with(b, 12, [15, 10, 0, 0]), 16);
-    case(b"read duration 1", with(b, 12, [15, 10, 0, 1]), 16);
-}
-
-// The fields of a packet in its fullest form: two CSRCs, an extension of one word, three bytes of padding.
-fn fields() {
-    let mut b = with(with(header(0xB2), 20, [9, 9, 0, 1]), 28, GOOD);
-    b[34] = 3;
-    let a = read(b, 35);
-    let ReadAnswer::Read(r) = a else {
-        return;
-    };
-    show::line(b"fields marker", r.marker as u64);
-    show::line(b"fields payload type", r.payload_type as u64);
-    show::line(b"fields sequence", r.sequence as u64);
-    show::line(b"fields timestamp", r.timestamp as u64);
-    show::line(b"fields SSRC", r.ssrc as u64);
-    show::line(b"fields code", r.code as u64);
-    show::line(b"fields E", r.ended as u64);
-    show::line(b"fields volume, R set", r.volume as u64);
-    show::line(b"fields duration", r.duration as u64);
-}
-
-fn report(payload_type: u32, code: u32, volume: u32, duration: u32) -> Report {
-    Report {
-        marker: true,
-        payload_type: payload_type,
-        sequence: 0xFEDC,
-        timestamp: 0x01234567,
-        ssrc: 0x89ABCDEF,
-        code: code,
-        ended: true,
-        volume: volume,
-        duration: duration,
+// A read report's fields stand before the answer.
+fn shown(a: ReadAnswer) {
+    match a {
+        ReadAnswer::Read(r) => {
+            show::name(b" =");
+            show::number(r.marker as u32);
+            show::number(r.payload_type);
+            show::number(r.sequence as u32);
+            show::number(r.timestamp);
+            show::number(r.ssrc);
+            show::number(r.code);
+            show::number(r.ended as u32);
+            show::number(r.volume);
+            show::number(r.duration);
+            show::answer(0);
+        }
+        ReadAnswer::Refused(n) => show::answer(n),
     }
 }
 
-pub fn written(a: WriteAnswer) -> u64 {
+fn read_row(i: usize) {
+    if READS <= i {
+        return;
+    }
+    let at = i * 6;
+    let first = READ[at];
+    let p = READ[at + 1];
+    let w = READ[at + 2];
+    let q = READ[at + 3];
+    let v = READ[at + 4];
+    let len = READ[at + 5];
+    show::name(b"read");
+    show::number(first);
+    show::number(p);
+    show::number(w);
+    show::number(q);
+    show::number(v);
+    show::number(len);
+    let b = with(with(header(first), size(p), w), size(q), v);
+    shown(read(b, size(len)));
+}
+
+const WRITES: usize = 14;
+
+// A row has payload type, code, volume, duration, and how many bytes of the output are lent.
+const WRITE: [u32; 70] = [
+    127, 5, 10, 400, 16,
+    128, 5, 10, 400, 16,
+    357, 5, 10, 400, 16,                            // 101 in eight bits
+    101, 15, 10, 400, 16,
+    101, 16, 10, 400, 16,
+    101, 5, 63, 400, 16,
+    101, 5, 64, 400, 16,
+    101, 5, 10, 0, 16,
+    101, 5, 10, 1, 16,
+    101, 5, 10, 65535, 16,
+    101, 5, 10, 65536, 16,
+    101, 5, 10, 400, 15,
+    101, 5, 10, 400, 17,                            // the byte after the packet stays
+    101, 5, 64, 400, 15,                            // 12 before 14
+];
+
+pub fn refusal_of(a: WriteAnswer) -> u8 {
     match a {
         WriteAnswer::Written => 0,
-        WriteAnswer::Refused(n) => n as u64,
+        WriteAnswer::Refused(n) => n,
     }
 }
 
-// Writes into the first `room` of 17 bytes, each 0xEE before.
-fn write(name: &[u8], r: Report, room: usize) {
+fn written(r: Report, room: usize) {
     if 17 < room {
         return;
     }
     let mut out = [0xEEu8; 17];
     let a = packet::write(r, &mut out[0..room]);
-    show::line(name, written(a));
-    show::bytes(b"  output", &out);
+    show::answer(refusal_of(a));
+    show::output(out);
 }
 
-fn writes() {
-    write(b"write payload type 127", report(127, 5, 10, 400), 16);
-    write(b"write payload type 128", report(128, 5, 10, 400), 16);
-    write(b"write payload type 357", report(357, 5, 10, 400), 16);
-    write(b"write code 15", report(101, 15, 10, 400), 16);
-    write(b"write code 16", report(101, 16, 10, 400), 16);
-    write(b"write volume 63", report(101, 5, 63, 400), 16);
-    write(b"write volume 64", report(101, 5, 64, 400), 16);
-    write(b"write duration 0", report(101, 5, 10, 0), 16);
-    write(b"write duration 1", report(101, 5, 10, 1), 16);
-    write(b"write duration 65535", report(101, 5, 10, 65535), 16);
-    write(b"write duration 65536", report(101, 5, 10, 65536), 16);
-    write(b"write into 15 bytes", report(101, 5, 10, 400), 15);
-    write(b"write into 17 bytes", report(101, 5, 10, 400), 17);
-    write(
-        b"write volume 64 into 15 bytes",
-        report(101, 5, 64, 400),
-        15,
-    );
+fn write_row(i: usize) {
+    if WRITES <= i {
+        return;
+    }
+    let at = i * 5;
+    let r = Report {
+        marker: true,
+        payload_type: WRITE[at],
+        sequence: 0xFEDC,
+        timestamp: 0x01234567,
+        ssrc: 0x89ABCDEF,
+        code: WRITE[at + 1],
+        ended: true,
+        volume: WRITE[at + 2],
+        duration: WRITE[at + 3],
+    };
+    let room = WRITE[at + 4];
+    show::name(b"write");
+    show::number(r.payload_type);
+    show::number(r.code);
+    show::number(r.volume);
+    show::number(r.duration);
+    show::number(room);
+    written(r, size(room));
 }
 
 pub fn run() {
-    headers();
-    paddings();
-    payloads();
-    fields();
-    writes();
+    for i in 0..READS {
+        read_row(i);
+    }
+    for j in 0..WRITES {
+        write_row(j);
+    }
 }

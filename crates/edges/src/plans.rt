@@ -1,107 +1,140 @@
 // Both sides of each edge of the sender's plan.
-use super::packets::written;
+use super::packets::refusal_of;
+use super::packets::size;
 use super::show;
 use model::CountAnswer;
 use model::Plan;
 
-// P7's plan with this length and period.
-fn plan(length: u32, period: u32) -> Plan {
+const COUNTS: usize = 21;
+
+// A row has payload type, code, volume, length and period.
+const COUNT: [u32; 105] = [
+    101, 5, 10, 1, 65535,                           // P1
+    101, 5, 10, 400, 400,                           // P2
+    101, 5, 10, 401, 400,                           // P3
+    101, 5, 10, 65535, 65535,                       // P4
+    101, 5, 10, 65536, 65535,                       // P5
+    101, 5, 10, 70000, 2400,                        // P6
+    101, 5, 10, 400, 65535,                         // the period above the length
+    101, 5, 10, 131070, 65535,                      // two full segments
+    101, 5, 10, 131071, 65535,
+    101, 5, 10, 1048560, 1,                         // the most reports
+    101, 5, 10, 1048561, 1,
+    101, 5, 10, 0, 400,
+    101, 5, 10, 400, 0,
+    101, 5, 10, 400, 65536,
+    127, 5, 10, 400, 400,
+    128, 5, 10, 400, 400,
+    101, 15, 10, 400, 400,
+    101, 16, 10, 400, 400,
+    101, 5, 63, 400, 400,
+    101, 5, 64, 400, 400,
+    357, 5, 10, 400, 400,
+];
+
+// P7's plan with other numbers.
+fn plan_of(payload_type: u32, code: u32, volume: u32, length: u32, period: u32) -> Plan {
     Plan {
-        payload_type: 101,
+        payload_type: payload_type,
         ssrc: 0x11223344,
         sequence: 65535,
         start: 0xFFFFFFF0,
-        code: 5,
-        volume: 10,
+        code: code,
+        volume: volume,
         length: length,
         period: period,
     }
 }
 
-// The number of reports, or the refusal's number after 12 digits that no count has.
-fn counted(a: CountAnswer) -> u64 {
+fn counted(a: CountAnswer) {
     match a {
-        CountAnswer::Reports(n) => n as u64,
-        CountAnswer::Refused(n) => 1000000000000 + n as u64,
+        CountAnswer::Reports(n) => {
+            show::name(b" =");
+            show::number(n);
+            show::answer(0);
+        }
+        CountAnswer::Refused(n) => show::answer(n),
     }
 }
 
-fn count(name: &[u8], length: u32, period: u32) {
-    show::line(name, counted(plan::report_count(plan(length, period))));
+fn count_row(i: usize) {
+    if COUNTS <= i {
+        return;
+    }
+    let at = i * 5;
+    let p = plan_of(
+        COUNT[at],
+        COUNT[at + 1],
+        COUNT[at + 2],
+        COUNT[at + 3],
+        COUNT[at + 4],
+    );
+    show::name(b"count");
+    show::number(p.payload_type);
+    show::number(p.code);
+    show::number(p.volume);
+    show::number(p.length);
+    show::number(p.period);
+    counted(plan::report_count(p));
 }
 
-fn counts() {
-    count(b"P1 (1, 65535)", 1, 65535);
-    count(b"P2 (400, 400)", 400, 400);
-    count(b"P3 (401, 400)", 401, 400);
-    count(b"P4 (65535, 65535)", 65535, 65535);
-    count(b"P5 (65536, 65535)", 65536, 65535);
-    count(b"P6 (70000, 2400)", 70000, 2400);
-    count(b"reports of (131070, 65535)", 131070, 65535);
-    count(b"reports of (131071, 65535)", 131071, 65535);
-    count(b"reports of (1048560, 1)", 1048560, 1);
-    count(b"reports of length 0", 0, 400);
-    count(b"reports of length 1048561", 1048561, 400);
-    count(b"reports of period 0", 400, 0);
-    count(b"reports of period 65536", 400, 65536);
-    let mut p = plan(400, 400);
-    p.payload_type = 127;
-    p.code = 15;
-    p.volume = 63;
-    show::line(
-        b"reports of payload type 127, code 15, volume 63",
-        counted(plan::report_count(p)),
-    );
-    p.payload_type = 128;
-    show::line(
-        b"reports of payload type 128",
-        counted(plan::report_count(p)),
-    );
-    p.payload_type = 127;
-    p.code = 16;
-    show::line(b"reports of code 16", counted(plan::report_count(p)));
-    p.code = 15;
-    p.volume = 64;
-    show::line(b"reports of volume 64", counted(plan::report_count(p)));
-}
+const REPORTS: usize = 20;
 
-// Writes report k into the first `room` of 17 bytes, each 0xEE before.
-fn report(name: &[u8], p: Plan, k: u32, room: usize) {
+// A row has length, period, the report's number, and how many bytes of the output are lent.
+const REPORT: [u32; 80] = [
+    400, 400, 0, 17,
+    400, 400, 1, 17,                                // P7
+    400, 400, 2, 17,                                // P8
+    400, 400, 3, 17,
+    400, 400, 4, 17,
+    70000, 30000, 1, 17,                            // two segments, eight reports
+    70000, 30000, 2, 17,
+    70000, 30000, 3, 17,
+    70000, 30000, 5, 17,
+    70000, 30000, 6, 17,
+    70000, 30000, 7, 17,
+    70000, 30000, 8, 17,
+    1048560, 1, 65537, 17,                          // the last report of the first segment of sixteen
+    1048560, 1, 65538, 17,
+    1048560, 1, 1048592, 17,
+    1048560, 1, 1048593, 17,
+    400, 400, 1, 15,
+    400, 400, 1, 16,
+    400, 400, 4, 15,                                // 13 before 14
+    0, 400, 4, 15,                                  // 12 before 13
+];
+
+fn written(p: Plan, k: u32, room: usize) {
     if 17 < room {
         return;
     }
     let mut out = [0xEEu8; 17];
     let a = plan::write_report(p, k, &mut out[0..room]);
-    show::line(name, written(a));
-    show::bytes(b"  output", &out);
+    show::answer(refusal_of(a));
+    show::output(out);
 }
 
-fn reports() {
-    let p7 = plan(400, 400);
-    report(b"report 0", p7, 0, 17);
-    report(b"P7, report 1", p7, 1, 17);
-    report(b"P8, report 2", p7, 2, 17);
-    report(b"P8, report 3", p7, 3, 17);
-    report(b"report 4 of 3", p7, 4, 17);
-    let two = plan(70000, 30000);
-    report(b"two segments, report 2", two, 2, 17);
-    report(b"two segments, report 3", two, 3, 17);
-    report(b"two segments, report 5", two, 5, 17);
-    report(b"two segments, report 6", two, 6, 17);
-    report(b"two segments, report 7", two, 7, 17);
-    report(b"two segments, report 8", two, 8, 17);
-    let longest = plan(1048560, 1);
-    report(b"longest plan, report 65537", longest, 65537, 17);
-    report(b"longest plan, report 65538", longest, 65538, 17);
-    report(b"longest plan, report 1048592", longest, 1048592, 17);
-    report(b"longest plan, report 1048593", longest, 1048593, 17);
-    report(b"report 1 into 15 bytes", p7, 1, 15);
-    report(b"report 1 into 16 bytes", p7, 1, 16);
-    report(b"report 4 of 3 into 15 bytes", p7, 4, 15);
-    report(b"length 0, report 4, into 15 bytes", plan(0, 400), 4, 15);
+fn report_row(i: usize) {
+    if REPORTS <= i {
+        return;
+    }
+    let at = i * 4;
+    let p = plan_of(101, 5, 10, REPORT[at], REPORT[at + 1]);
+    let k = REPORT[at + 2];
+    let room = REPORT[at + 3];
+    show::name(b"report");
+    show::number(p.length);
+    show::number(p.period);
+    show::number(k);
+    show::number(room);
+    written(p, k, size(room));
 }
 
 pub fn run() {
-    counts();
-    reports();
+    for i in 0..COUNTS {
+        count_row(i);
+    }
+    for j in 0..REPORTS {
+        report_row(j);
+    }
 }

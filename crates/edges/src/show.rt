@@ -1,10 +1,20 @@
-// One printed line for each case: its name, and what the call answered.
+// What the program prints: a line for each case, with the case's numbers and what the call answered.
 
-// A line with a number: 0 where the call refused nothing, else the refusal's number.
-pub fn line(name: &[u8], n: u64) {
-    io::write_all(1, name);
-    io::write_all(1, b": ");
-    io::print_decimal(1, n);
+// The name of a group of cases.
+pub fn name(text: &[u8]) {
+    io::write_all(1, text);
+}
+
+// One of the case's numbers.
+pub fn number(n: u32) {
+    io::write_all(1, b" ");
+    io::print_decimal(1, n as u64);
+}
+
+// The answer: 0 where nothing was refused, else the refusal's number.
+pub fn answer(n: u8) {
+    io::write_all(1, b" -> ");
+    io::print_decimal(1, n as u64);
     io::write_all(1, b"\n");
 }
 
@@ -12,10 +22,8 @@ fn wide(b: u8) -> u64 {
     b as u64
 }
 
-// A line with 16 bytes and the one after them.
-pub fn bytes(name: &[u8], b: &[u8; 17]) {
-    io::write_all(1, name);
-    io::write_all(1, b":");
+// The 17 bytes of an output.
+pub fn output(b: [u8; 17]) {
     let mut i = 0usize;
     while i < 17 {
         io::write_all(1, b" ");
