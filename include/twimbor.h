@@ -17,12 +17,18 @@ enum {
     TWIMBOR_WRONG_VERSION = 2,      /* version not 2 */
     TWIMBOR_HEADER_PAST_END = 3,    /* CSRC list or extension runs past the end */
     TWIMBOR_BAD_PADDING = 4,        /* pad count 0 or above the bytes after the header */
+    TWIMBOR_OTHER_PAYLOAD_TYPE = 5, /* not the table's payload type */
+    TWIMBOR_OTHER_SSRC = 6,         /* not the table's SSRC */
     TWIMBOR_NOT_ONE_REPORT = 7,     /* payload not 4 bytes */
     TWIMBOR_CODE_TOO_HIGH = 8,      /* code above 15 */
     TWIMBOR_NO_DURATION = 9,        /* duration 0 */
+    TWIMBOR_OFFSET_TOO_LARGE = 10,  /* offset 2^31 or more */
+    TWIMBOR_TABLE_FULL = 11,        /* 128 segments held, and this pair is none of them */
     TWIMBOR_OUT_OF_RANGE = 12,      /* a number outside its range */
-    TWIMBOR_NO_SUCH_NUMBER = 13,    /* report number 0 or above the count */
-    TWIMBOR_OUTPUT_TOO_SMALL = 14   /* output has fewer than 16 bytes */
+    TWIMBOR_NO_SUCH_NUMBER = 13,    /* report or event number 0 or above the count */
+    TWIMBOR_OUTPUT_TOO_SMALL = 14,  /* output has fewer than 16 bytes */
+    TWIMBOR_LIST_TOO_SMALL = 15,    /* lent list has fewer records than there are events */
+    TWIMBOR_INVALID_TABLE = 16      /* table fails a test */
 };
 
 /* One report on the wire. */
@@ -71,5 +77,70 @@ twimbor_count_result twimbor_report_count(twimbor_plan plan);
 
 /* Writes report k of a plan, counted from 1, at the start of the output; 12, 13 or 14. */
 uint8_t twimbor_write_report(twimbor_plan plan, uint32_t k, uint8_t *output, size_t length);
+
+/* A segment of a table: what was heard of one offset and code. */
+typedef struct {
+    uint32_t offset;                /* (timestamp - origin) modulo 2^32 */
+    uint8_t code;
+    uint16_t duration;              /* the largest heard */
+    uint8_t volume;                 /* the smallest number heard, the loudest */
+    bool ended;                     /* E was heard */
+    bool marked;                    /* M was heard */
+} twimbor_segment;
+
+/* The receiving table. The first `count` places hold segments, by offset, then code. */
+typedef struct {
+    uint8_t payload_type;
+    uint32_t ssrc;
+    uint32_t origin;
+    size_t count;
+    twimbor_segment segments[128];
+} twimbor_table;
+
+typedef struct {
+    twimbor_table table;
+    uint8_t refusal;
+} twimbor_opened;
+
+typedef struct {
+    twimbor_table table;
+    uint8_t refusal;
+    bool is_new;                    /* taken, and its segment is new */
+} twimbor_received;
+
+/* One event of the list. */
+typedef struct {
+    uint8_t code;                   /* the key */
+    uint32_t start;                 /* an offset */
+    uint32_t length;
+    uint8_t volume;                 /* the smallest number of its segments */
+    bool began;                     /* its first segment was marked */
+    bool ended;                     /* its last segment has E */
+} twimbor_event;
+
+typedef struct {
+    twimbor_event event;
+    uint8_t refusal;
+} twimbor_event_result;
+
+typedef struct {
+    uint8_t refusal;
+    size_t events;
+} twimbor_listed;
+
+/* An empty table for one payload type and SSRC; 12, with a table of zeros. */
+twimbor_opened twimbor_open(uint32_t payload_type, uint32_t ssrc, uint32_t origin);
+
+/* Whether a table passes the tests of refusal 16. */
+bool twimbor_is_valid(twimbor_table table);
+
+/* Receives a packet; 16, 1 to 11. Under a refusal the table comes back as it was. */
+twimbor_received twimbor_receive(twimbor_table table, const uint8_t *packet, size_t length);
+
+/* The event at number k, counted from 1 by start, then code; 16 or 13. */
+twimbor_event_result twimbor_event_at(twimbor_table table, uint32_t k);
+
+/* Writes the events into the first records of a lent list, and answers how many; 16 or 15. The other records stay. */
+twimbor_listed twimbor_list(twimbor_table table, twimbor_event *list, size_t length);
 
 #endif

@@ -1,26 +1,7 @@
 /* The exported calls from C: compared with plain C on many packets and plans, good and damaged. */
-#include "../include/twimbor.h"
-#include <stdio.h>
-#include <stdlib.h>
+#include "check.h"
+#include "plain.h"
 #include <string.h>
-
-twimbor_read_result plain_read(const uint8_t *p, size_t n);
-
-static uint64_t state = 1;
-
-static uint32_t any(void)
-{
-    state = state * 6364136223846793005u + 1442695040888963407u;
-    return (uint32_t)(state >> 33);
-}
-
-static void expect(int holds, const char *what)
-{
-    if (!holds) {
-        printf("failed: %s\n", what);
-        exit(1);
-    }
-}
 
 static int same_report(twimbor_report a, twimbor_report b)
 {

@@ -1,5 +1,5 @@
 /* A reader of the same rules in plain C, behind the same boundary, to compare with and to measure against. */
-#include "../include/twimbor.h"
+#include "plain.h"
 
 twimbor_read_result plain_read(const uint8_t *p, size_t n)
 {

@@ -1,9 +1,13 @@
 // Runs both sides of each edge of document 01 and prints a line for each; the file stdout has what must come.
+mod lists;
 mod packets;
 mod plans;
 mod show;
+mod tables;
 
 fn main() {
     packets::run();
     plans::run();
+    tables::run();
+    lists::run();
 }

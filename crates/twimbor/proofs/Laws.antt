@@ -1,16 +1,23 @@
 -- What is told of an answer, case by case, is what the struct in its place holds.
 use Prim.Native.Nat.{ℕ}
-use mathlib.Core.Path.{_≡_, refl, sym, ap, _∙_}
+use mathlib.Core.Path.{_≡_, sym, ap, _∙_}
+use mathlib.Core.Bool.{Bool}
 use borrow.Author.Needs.{needs}
 use Rattle.model.specs.declared.Report.{Report}
 use Rattle.model.specs.declared.ReadAnswer.{ReadAnswer}
-use Rattle.model.specs.declared.ReadAnswer.the-variants as readAnswer
 use Rattle.model.specs.declared.WriteAnswer.{WriteAnswer}
-use Rattle.model.specs.declared.WriteAnswer.the-variants as writeAnswer
 use Rattle.model.specs.declared.CountAnswer.{CountAnswer}
+use Rattle.model.specs.declared.ReceiveAnswer.{ReceiveAnswer}
+use Rattle.model.specs.declared.EventAnswer.{EventAnswer}
+use Rattle.model.specs.declared.Event.{Event}
+use Rattle.model.specs.declared.Table.{Table}
+use Rattle.model.specs.Receive.{Receiving}
+use Rattle.model.specs.Refusals.{Told, noReport, noEvent, toldRead, toldWrite, toldCount, toldReceive, toldEvent}
+use Rattle.twimbor.specs.Results.{readResult, countResult, receiveResult, eventResult}
+use Rattle.model.specs.declared.ReadAnswer.the-variants as readAnswer
+use Rattle.model.specs.declared.WriteAnswer.the-variants as writeAnswer
 use Rattle.model.specs.declared.CountAnswer.the-variants as countAnswer
-use Rattle.model.specs.Refusals.{Told, noReport, toldRead, toldWrite, toldCount}
-use Rattle.twimbor.specs.Results.{readResult, countResult}
+use Rattle.model.specs.declared.EventAnswer.the-variants as eventAnswer
 
 module _ (a : ReadAnswer) (t : Told Report) (told : toldRead a ≡ t) where
   pub read-given : (r : Report) → a ≡ readAnswer.Read r → record { report = r; refusal = 0 } ≡ readResult t
@@ -33,4 +40,18 @@ module _ (a : CountAnswer) (t : Told ℕ) (told : toldCount a ≡ t) where
   pub count-refused : (n : ℕ) → a ≡ countAnswer.Refused n → record { reports = 0; refusal = n } ≡ countResult t
   count-refused n e = ap (λ (x : CountAnswer). countResult (toldCount x)) (sym e) ∙ ap countResult told
 
-pub ruleset answers = (needs, read-given, read-refused, write-given, write-refused, count-given, count-refused)
+pub received : (a : ReceiveAnswer) (u : Table) (q : Receiving) → toldReceive a ≡ q .answer → u ≡ q .table
+    → (n : ℕ) (b : Bool) → n ≡ toldReceive a .number → b ≡ toldReceive a .values → record { table = u; refusal = n; «is_new» = b } ≡ receiveResult q
+received a u q told after n b e f =
+    let x : n ≡ q .answer .number = e ∙ ap (λ (t : Told Bool). t .number) told in
+    let y : b ≡ q .answer .values = f ∙ ap (λ (t : Told Bool). t .values) told in
+    λ i. record { table = after i; refusal = x i; «is_new» = y i }
+
+module _ (a : EventAnswer) (t : Told Event) (told : toldEvent a ≡ t) where
+  pub event-given : (v : Event) → a ≡ eventAnswer.Found v → record { event = v; refusal = 0 } ≡ eventResult t
+  event-given v e = ap (λ (x : EventAnswer). eventResult (toldEvent x)) (sym e) ∙ ap eventResult told
+
+  pub event-refused : (n : ℕ) → a ≡ eventAnswer.Refused n → (z : Event) → z ≡ noEvent → record { event = z; refusal = n } ≡ eventResult t
+  event-refused n e z f = rw f (ap (λ (x : EventAnswer). eventResult (toldEvent x)) (sym e) ∙ ap eventResult told)
+
+pub ruleset answers = (needs, read-given, read-refused, write-given, write-refused, count-given, count-refused, received, event-given, event-refused)

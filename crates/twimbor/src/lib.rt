@@ -1,14 +1,23 @@
 // What C and Rust link: the library's calls, with structs that hold a number in place of enums. A slice crosses as a pointer
 // and a length. Every function checks its own input; refusal 0 means that nothing was refused.
 ghost use mathlib.Core.Path.{_≡_};
-ghost use Rattle.model.specs.Refusals.{noReport};
+ghost use Rattle.model.specs.Refusals.{noReport, noEvent, toldReceive};
 ghost use Rattle.model.specs.Packet.{read, write};
 ghost use Rattle.model.specs.Plan.{countReports, writePlanned};
-ghost use Rattle.twimbor.specs.Results.{readResult, countResult};
+ghost use Rattle.model.specs.Table.{valid, opened};
+ghost use Rattle.model.specs.Receive.{receive};
+ghost use Rattle.model.specs.List.{eventAt, list};
+ghost use Rattle.twimbor.specs.Results.{readResult, countResult, receiveResult, eventResult};
 use model::CountAnswer;
+use model::Event;
+use model::EventAnswer;
+use model::Listed;
+use model::Opened;
 use model::Plan;
 use model::ReadAnswer;
+use model::ReceiveAnswer;
 use model::Report;
+use model::Table;
 use model::WriteAnswer;
 
 // A report, or the number of the refusal and zeros.
@@ -25,6 +34,21 @@ pub struct CountResult {
     pub refusal: u8,
 }
 
+// The table after a receiving call; the refusal's number, 0 if the packet was taken; whether its segment is new.
+#[repr(C)]
+pub struct ReceiveResult {
+    pub table: Table,
+    pub refusal: u8,
+    pub is_new: bool,
+}
+
+// An event, or the number of the refusal and zeros.
+#[repr(C)]
+pub struct EventResult {
+    pub event: Event,
+    pub refusal: u8,
+}
+
 fn no_report() -> Report
     ensures { λ r. ⌜ r ≡ noReport ⌝ }
 {
@@ -38,6 +62,19 @@ fn no_report() -> Report
         ended: false,
         volume: 0,
         duration: 0,
+    }
+}
+
+fn no_event() -> Event
+    ensures { λ r. ⌜ r ≡ noEvent ⌝ }
+{
+    Event {
+        code: 0,
+        start: 0,
+        length: 0,
+        volume: 0,
+        began: false,
+        ended: false,
     }
 }
 
@@ -101,4 +138,85 @@ pub extern "C" fn twimbor_write_report(p: Plan, k: u32, out: &mut [u8]) -> u8
         WriteAnswer::Written => 0,
         WriteAnswer::Refused(number) => number,
     }
+}
+
+// An empty table for one payload type and SSRC, or 12 with a table of zeros if the payload type is above 127.
+#[no_mangle]
+pub extern "C" fn twimbor_open(payload_type: u32, ssrc: u32, origin: u32) -> Opened
+    ensures { λ r. ⌜ r ≡ opened «payload_type» ssrc origin ⌝ }
+{
+    table::open(payload_type, ssrc, origin)
+}
+
+// Whether a table passes the tests of refusal 16.
+#[no_mangle]
+pub extern "C" fn twimbor_is_valid(t: Table) -> bool
+    ensures { λ r. ⌜ r ≡ valid t ⌝ }
+{
+    table::is_valid(t)
+}
+
+// The refusal's number; 0 if the packet was taken.
+fn receive_refusal(a: ReceiveAnswer) -> u8
+    ensures { λ r. ⌜ r ≡ toldReceive a .number ⌝ }
+{
+    match a {
+        ReceiveAnswer::New => 0,
+        ReceiveAnswer::Known => 0,
+        ReceiveAnswer::Refused(n) => n,
+    }
+}
+
+// Whether the packet was taken and its segment is new.
+fn says_new(a: ReceiveAnswer) -> bool
+    ensures { λ r. ⌜ r ≡ toldReceive a .values ⌝ }
+{
+    match a {
+        ReceiveAnswer::New => true,
+        ReceiveAnswer::Known => false,
+        ReceiveAnswer::Refused(_n) => false,
+    }
+}
+
+// Receives a packet: its report is taken into the table, or it is refused with 16 or 1 to 11 and the table is as it was.
+#[no_mangle]
+pub extern "C" fn twimbor_receive(t: Table, s: &[u8]) -> ReceiveResult
+    ensures { λ r. ⌜ r ≡ receiveResult (receive t (now (s .entry))) ⌝ }
+{
+    let got = table::receive(t, s);
+    let a = got.answer;
+    let refusal = receive_refusal(a);
+    let is_new = says_new(a);
+    let u = got.table;
+    ReceiveResult {
+        table: u,
+        refusal: refusal,
+        is_new: is_new,
+    }
+}
+
+// The event at number k, counted from 1 by start, then code, or 16 or 13.
+#[no_mangle]
+pub extern "C" fn twimbor_event_at(t: Table, k: u32) -> EventResult
+    ensures { λ r. ⌜ r ≡ eventResult (eventAt t k) ⌝ }
+{
+    let a = events::event_at(t, k);
+    match a {
+        EventAnswer::Found(v) => EventResult {
+            event: v,
+            refusal: 0,
+        },
+        EventAnswer::Refused(refusal) => EventResult {
+            event: no_event(),
+            refusal: refusal,
+        },
+    }
+}
+
+// Writes the events into the first lent records and answers how many, or 16 or 15; the other records stay.
+#[no_mangle]
+pub extern "C" fn twimbor_list(t: Table, out: &mut [Event]) -> Listed
+    ensures { λ r. ⌜ (r ≡ list t (now (out .entry)) .answer) × (now (out .exit) ≡ list t (now (out .entry)) .records) ⌝ }
+{
+    events::list::list(t, out)
 }

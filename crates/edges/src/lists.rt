@@ -1,0 +1,98 @@
+// Events of tables that no call made: rows P9 to P12 and others, each at event numbers on both sides of the count.
+use super::show;
+use super::tables::segment_of;
+use model::Event;
+use model::EventAnswer;
+use model::Segment;
+use model::Table;
+
+const LISTS: usize = 10;
+
+// Three segments (offset, code, duration, volume, E, M), of which those with a duration are held.
+const LIST: [u32; 180] = [
+    0, 5, 65535, 10, 0, 1, 65535, 5, 1, 10, 1, 0, 0, 0, 0, 0, 0, 0,          // P9
+    0, 5, 65535, 10, 1, 1, 65535, 5, 1, 10, 1, 0, 0, 0, 0, 0, 0, 0,          // P10
+    0, 5, 65534, 10, 0, 1, 65535, 5, 1, 10, 1, 0, 0, 0, 0, 0, 0, 0,          // P11
+    0, 5, 65535, 10, 0, 1, 65535, 5, 1, 10, 1, 1, 0, 0, 0, 0, 0, 0,          // P12
+    0, 5, 65535, 10, 0, 1, 9, 6, 1, 1, 0, 0, 65535, 5, 1, 7, 1, 0,           // another code between
+    0, 5, 65535, 10, 0, 1, 9, 5, 65535, 9, 0, 0, 65535, 5, 1, 7, 1, 0,       // overlapping: the nearest is the second
+    0, 5, 65535, 10, 0, 0, 0, 6, 65535, 9, 0, 0, 65535, 6, 1, 7, 1, 0,       // two codes at one offset
+    0, 5, 65535, 10, 0, 1, 65535, 5, 65535, 9, 0, 0, 131070, 5, 1, 11, 0, 0, // three segments, no E
+    0, 5, 1, 10, 0, 0, 1, 5, 1, 9, 1, 0, 2, 5, 1, 8, 1, 1,
+    0, 0, 0, 0, 0, 0, 0, 0, 0, 0, 0, 0, 0, 0, 0, 0, 0, 0,                    // no segments
+];
+
+// The segment at a place of the rows; zeros beyond them.
+fn segment_at(at: usize) -> Segment {
+    if 174 < at {
+        return segment_of(0, 0, 0, 0);
+    }
+    let mut s = segment_of(LIST[at], LIST[at + 1], LIST[at + 2], LIST[at + 3]);
+    s.ended = LIST[at + 4] == 1;
+    s.marked = LIST[at + 5] == 1;
+    s
+}
+
+// A table that no call made, with the row's segments.
+fn made(i: usize) -> Table {
+    let o = table::open(101, 7, 0);
+    let mut t = o.table;
+    if i < LISTS {
+        let at = i * 18;
+        let a = segment_at(at);
+        let b = segment_at(at + 6);
+        let c = segment_at(at + 12);
+        t.segments[0] = a;
+        t.segments[1] = b;
+        t.segments[2] = c;
+        let mut n = 0usize;
+        if 0 < a.duration {
+            n = 1;
+        }
+        if 0 < b.duration {
+            n = 2;
+        }
+        if 0 < c.duration {
+            n = 3;
+        }
+        t.count = n;
+    }
+    t
+}
+
+fn event(v: Event) {
+    show::name(b" =");
+    show::number(v.code as u32);
+    show::number(v.start);
+    show::number(v.length);
+    show::number(v.volume as u32);
+    show::number(v.began as u32);
+    show::number(v.ended as u32);
+    show::answer(0);
+}
+
+// The event at one number.
+fn list_row(i: usize, k: u32) {
+    show::name(b"row");
+    show::number((i % 65536) as u32);
+    show::name(b" event");
+    show::number(k);
+    let a = events::event_at(made(i), k);
+    match a {
+        EventAnswer::Found(v) => event(v),
+        EventAnswer::Refused(n) => show::answer(n),
+    }
+}
+
+// Of each row, the events at the numbers 0 to 4.
+pub fn run() {
+    let mut i = 0usize;
+    while i < LISTS {
+        let mut k = 0u32;
+        while k < 5 {
+            list_row(i, k);
+            k += 1;
+        }
+        i += 1;
+    }
+}

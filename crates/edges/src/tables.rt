@@ -1,0 +1,282 @@
+// Both sides of each edge of the receiving table.
+use super::packets::size;
+use super::show;
+use model::ReceiveAnswer;
+use model::Received;
+use model::Report;
+use model::Segment;
+use model::Table;
+
+const OPENS: usize = 4;
+
+// Payload type, SSRC, origin.
+const OPEN: [u32; 12] = [
+    127, 7, 9,
+    128, 7, 9,
+    357, 7, 9,                                      // 101 in eight bits
+    0, 0xFFFFFFFF, 0xFFFFFFFF,
+];
+
+fn open_row(i: usize) {
+    if OPENS <= i {
+        return;
+    }
+    let at = i * 3;
+    show::name(b"open");
+    show::number(OPEN[at]);
+    show::number(OPEN[at + 1]);
+    show::number(OPEN[at + 2]);
+    let o = table::open(OPEN[at], OPEN[at + 1], OPEN[at + 2]);
+    show::name(b" =");
+    show::number(o.table.payload_type as u32);
+    show::number(o.table.ssrc);
+    show::number(o.table.origin);
+    show::answer(o.refusal);
+}
+
+fn packet_of(r: Report) -> [u8; 16] {
+    let mut out = [0u8; 16];
+    packet::write(r, &mut out[0..16]);
+    out
+}
+
+fn receive_bytes(t: Table, b: [u8; 16]) -> Received {
+    table::receive(t, &b[0..16])
+}
+
+// The table after a report was received, and the answer printed: new, known or the refusal's number.
+fn received(t: Table, r: Report) -> Table {
+    let got = receive_bytes(t, packet_of(r));
+    let a = got.answer;
+    match a {
+        ReceiveAnswer::New => show::name(b" -> new\n"),
+        ReceiveAnswer::Known => show::name(b" -> known\n"),
+        ReceiveAnswer::Refused(n) => show::answer(n),
+    }
+    let u = got.table;
+    u
+}
+
+pub fn report_of(
+    payload_type: u32,
+    ssrc: u32,
+    timestamp: u32,
+    code: u32,
+    duration: u32,
+    volume: u32,
+    ended: bool,
+    marker: bool,
+) -> Report {
+    Report {
+        marker: marker,
+        payload_type: payload_type,
+        sequence: 1,
+        timestamp: timestamp,
+        ssrc: ssrc,
+        code: code,
+        ended: ended,
+        volume: volume,
+        duration: duration,
+    }
+}
+
+const RECEIVES: usize = 13;
+
+// Payload type, SSRC, timestamp, code, duration, volume, E, M: one call after another on a table opened with payload type 101,
+// SSRC 7 and an origin of 2^32 - 16.
+const RECEIVE: [u32; 104] = [
+    101, 7, 0xFFFFFFF0, 5, 400, 10, 0, 1,           // offset 0
+    101, 7, 0xFFFFFFF0, 5, 800, 20, 0, 0,           // longer, less loud
+    101, 7, 0xFFFFFFF0, 5, 400, 5, 1, 0,            // shorter, louder, E
+    101, 7, 0xFFFFFFF0, 5, 800, 10, 0, 0,
+    101, 7, 0xFFFFFFF0, 4, 1, 63, 0, 0,             // another code at that offset
+    101, 7, 0, 5, 65535, 0, 0, 0,                   // offset 16, after the wrap
+    101, 7, 8, 0, 1, 0, 0, 0,                       // between them
+    101, 7, 0x7FFFFFEF, 15, 1, 0, 0, 0,             // offset 2^31 - 1
+    101, 7, 0x7FFFFFF0, 15, 1, 0, 0, 0,             // offset 2^31
+    101, 7, 0xFFFFFFEF, 15, 1, 0, 0, 0,             // before the origin
+    100, 7, 0xFFFFFFF0, 5, 400, 10, 0, 1,
+    101, 8, 0xFFFFFFF0, 5, 400, 10, 0, 1,
+    100, 8, 0x7FFFFFF0, 5, 400, 10, 0, 1,           // 5 before 6 and 10
+];
+
+fn receive_row(t: Table, i: usize) -> Table {
+    if RECEIVES <= i {
+        return t;
+    }
+    let at = i * 8;
+    let r = report_of(
+        RECEIVE[at],
+        RECEIVE[at + 1],
+        RECEIVE[at + 2],
+        RECEIVE[at + 3],
+        RECEIVE[at + 4],
+        RECEIVE[at + 5],
+        RECEIVE[at + 6] == 1,
+        RECEIVE[at + 7] == 1,
+    );
+    show::name(b"receive");
+    show::number(r.payload_type);
+    show::number(r.ssrc);
+    show::number(r.timestamp);
+    show::number(r.code);
+    show::number(r.duration);
+    show::number(r.volume);
+    show::number(r.ended as u32);
+    show::number(r.marker as u32);
+    received(t, r)
+}
+
+fn segment(s: Segment) {
+    show::name(b"  segment");
+    show::number(s.offset);
+    show::number(s.code as u32);
+    show::number(s.duration as u32);
+    show::number(s.volume as u32);
+    show::number(s.ended as u32);
+    show::number(s.marked as u32);
+    show::name(b"\n");
+}
+
+// The segments of the first places.
+fn segments(t: Table, n: usize) {
+    let mut i = 0usize;
+    while i < n {
+        if i < 128 {
+            segment(t.segments[i]);
+        }
+        i += 1;
+    }
+}
+
+// Reports at so many offsets, each new, from the highest to the lowest.
+fn filled(n: u32) -> Table {
+    let o = table::open(101, 7, 0);
+    let mut t = o.table;
+    let mut i = n;
+    while 0 < i {
+        i -= 1;
+        let got = receive_bytes(t, packet_of(report_of(101, 7, i, 5, 400, 10, false, true)));
+        let u = got.table;
+        t = u;
+    }
+    t
+}
+
+// 127 and 128 held: a held pair, another code at a held offset, and another offset.
+fn rooms() {
+    let almost = filled(127);
+    show::name(b"127 held, another offset");
+    received(almost, report_of(101, 7, 500, 5, 400, 10, false, true));
+    let full = filled(128);
+    show::name(b"128 held, a held pair");
+    received(full, report_of(101, 7, 127, 5, 800, 10, false, true));
+    show::name(b"128 held, another code");
+    received(full, report_of(101, 7, 127, 6, 400, 10, false, true));
+    show::name(b"128 held, another offset");
+    let after = received(full, report_of(101, 7, 500, 5, 400, 10, false, true));
+    show::name(b"  still held");
+    show::number((after.count % 65536) as u32);
+    show::name(b"\n");
+}
+
+const TESTS: usize = 20;
+
+// Number held, payload type, then offset, code, duration and volume of the second segment; the first is (16, 5, 1, 63).
+const TEST: [u32; 120] = [
+    2, 127, 16, 6, 65535, 63,
+    2, 128, 16, 6, 65535, 63,
+    2, 127, 0x7FFFFFFF, 0, 1, 0,
+    2, 127, 0x80000000, 0, 1, 0,
+    2, 127, 16, 5, 1, 0,                            // the same pair
+    2, 127, 16, 4, 1, 0,                            // a lower code at the same offset
+    2, 127, 15, 9, 1, 0,                            // a lower offset
+    2, 127, 17, 0, 1, 0,
+    2, 127, 16, 15, 1, 0,
+    2, 127, 16, 16, 1, 0,
+    2, 127, 16, 6, 0, 0,
+    2, 127, 16, 6, 1, 63,
+    2, 127, 16, 6, 1, 64,
+    1, 127, 15, 16, 0, 64,                          // places above the number held are not tested
+    0, 127, 15, 16, 0, 64,
+    3, 127, 16, 6, 1, 0,                            // a third place of zeros
+    128, 127, 16, 6, 1, 0,
+    129, 127, 16, 6, 1, 0,
+    4000000000, 127, 16, 6, 1, 0,
+    0, 128, 16, 6, 1, 0,
+];
+
+fn byte(n: u32) -> u8 {
+    (n % 256) as u8
+}
+
+fn half(n: u32) -> u16 {
+    (n % 65536) as u16
+}
+
+pub fn segment_of(offset: u32, code: u32, duration: u32, volume: u32) -> Segment {
+    Segment {
+        offset: offset,
+        code: byte(code),
+        duration: half(duration),
+        volume: byte(volume),
+        ended: false,
+        marked: false,
+    }
+}
+
+// A table that no call made.
+fn made(i: usize) -> Table {
+    let o = table::open(0, 7, 0);
+    let mut t = o.table;
+    if i < TESTS {
+        let at = i * 6;
+        t.count = size(TEST[at]);
+        t.payload_type = byte(TEST[at + 1]);
+        t.segments[0] = segment_of(16, 5, 1, 63);
+        t.segments[1] = segment_of(TEST[at + 2], TEST[at + 3], TEST[at + 4], TEST[at + 5]);
+    }
+    t
+}
+
+fn test_row(i: usize) {
+    if TESTS <= i {
+        return;
+    }
+    let at = i * 6;
+    show::name(b"table");
+    show::number(TEST[at]);
+    show::number(TEST[at + 1]);
+    show::number(TEST[at + 2]);
+    show::number(TEST[at + 3]);
+    show::number(TEST[at + 4]);
+    show::number(TEST[at + 5]);
+    let t = made(i);
+    show::name(b" passes");
+    show::number(table::is_valid(t) as u32);
+    show::name(b", receive of no bytes");
+    let got = table::receive(t, b"");
+    let a = got.answer;
+    match a {
+        ReceiveAnswer::New => show::name(b" -> new\n"),
+        ReceiveAnswer::Known => show::name(b" -> known\n"),
+        ReceiveAnswer::Refused(n) => show::answer(n),
+    }
+}
+
+pub fn run() {
+    for i in 0..OPENS {
+        open_row(i);
+    }
+    let o = table::open(101, 7, 0xFFFFFFF0);
+    let mut t = o.table;
+    for j in 0..RECEIVES {
+        let u = receive_row(t, j);
+        t = u;
+    }
+    segments(t, t.count);
+    rooms();
+    for k in 0..TESTS {
+        test_row(k);
+    }
+}
