@@ -23,41 +23,43 @@ bool plain_is_valid(twimbor_table t)
     return passes(&t);
 }
 
-twimbor_received plain_receive(twimbor_table t, const uint8_t *p, size_t n)
+plain_answer plain_receive_valid(twimbor_table *t, const uint8_t *p, size_t n)
 {
-    twimbor_received r;
-    r.is_new = false;
-    twimbor_read_result a;
-    if (!passes(&t)) { r.refusal = 16; goto done; }
-    a = plain_read(p, n);
-    if (a.refusal >= 1 && a.refusal <= 4) { r.refusal = a.refusal; goto done; }
-    if ((p[1] & 127) != t.payload_type) { r.refusal = 5; goto done; }
-    if (((uint32_t)p[8] << 24 | (uint32_t)p[9] << 16 | (uint32_t)p[10] << 8 | p[11]) != t.ssrc) { r.refusal = 6; goto done; }
-    if (a.refusal != 0) { r.refusal = a.refusal; goto done; }
-    uint32_t offset = a.report.timestamp - t.origin;
+    twimbor_read_result a = plain_read(p, n);
+    if (a.refusal >= 1 && a.refusal <= 4) return (plain_answer){a.refusal, false};
+    if ((p[1] & 127) != t->payload_type) return (plain_answer){5, false};
+    if (((uint32_t)p[8] << 24 | (uint32_t)p[9] << 16 | (uint32_t)p[10] << 8 | p[11]) != t->ssrc) return (plain_answer){6, false};
+    if (a.refusal != 0) return (plain_answer){a.refusal, false};
+    uint32_t offset = a.report.timestamp - t->origin;
     uint8_t code = (uint8_t)a.report.code;
-    if (offset >= 0x80000000u) { r.refusal = 10; goto done; }
-    size_t low = 0, high = t.count;
+    if (offset >= 0x80000000u) return (plain_answer){10, false};
+    size_t low = 0, high = t->count;
     while (low < high) {
         size_t middle = low + (high - low) / 2;
-        if (before(t.segments[middle], offset, code)) low = middle + 1; else high = middle;
+        if (before(t->segments[middle], offset, code)) low = middle + 1; else high = middle;
     }
-    r.refusal = 0;
-    if (low < t.count && t.segments[low].offset == offset && t.segments[low].code == code) {
-        twimbor_segment *s = &t.segments[low];
+    twimbor_segment *s = &t->segments[low];
+    if (low < t->count && s->offset == offset && s->code == code) {
         if (a.report.duration > s->duration) s->duration = (uint16_t)a.report.duration;
         if (a.report.volume < s->volume) s->volume = (uint8_t)a.report.volume;
         s->ended |= a.report.ended;
         s->marked |= a.report.marker;
-    } else if (t.count == 128) {
-        r.refusal = 11;
-    } else {
-        memmove(&t.segments[low + 1], &t.segments[low], (t.count - low) * sizeof t.segments[0]);
-        t.segments[low] = (twimbor_segment){offset, code, (uint16_t)a.report.duration, (uint8_t)a.report.volume, a.report.ended, a.report.marker};
-        t.count++;
-        r.is_new = true;
+        return (plain_answer){0, false};
     }
-done:
+    if (t->count == 128) return (plain_answer){11, false};
+    memmove(s + 1, s, (t->count - low) * sizeof *s);
+    *s = (twimbor_segment){offset, code, (uint16_t)a.report.duration, (uint8_t)a.report.volume, a.report.ended, a.report.marker};
+    t->count++;
+    return (plain_answer){0, true};
+}
+
+twimbor_received plain_receive(twimbor_table t, const uint8_t *p, size_t n)
+{
+    twimbor_received r;
+    plain_answer a = {16, false};
+    if (passes(&t)) a = plain_receive_valid(&t, p, n);
+    r.refusal = a.refusal;
+    r.is_new = a.is_new;
     r.table = t;
     return r;
 }

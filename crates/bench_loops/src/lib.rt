@@ -6,7 +6,7 @@ fn pass(t: Table, packets: &[u8]) -> Table {
     let mut u = t;
     let mut at = 0usize;
     while 16 <= packets.len() - at {
-        let got = table::receive(u, &packets[at..at + 16]);
+        let got = receive::receive(u, &packets[at..at + 16]);
         let v = got.table;
         u = v;
         at += 16;

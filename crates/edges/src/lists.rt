@@ -22,14 +22,26 @@ const LIST: [u32; 180] = [
     0, 0, 0, 0, 0, 0, 0, 0, 0, 0, 0, 0, 0, 0, 0, 0, 0, 0,                    // no segments
 ];
 
+fn list_cell(at: usize) -> u32 {
+    if 180 <= at {
+        return 0;
+    }
+    LIST[at]
+}
+
 // The segment at a place of the rows; zeros beyond them.
 fn segment_at(at: usize) -> Segment {
     if 174 < at {
         return segment_of(0, 0, 0, 0);
     }
-    let mut s = segment_of(LIST[at], LIST[at + 1], LIST[at + 2], LIST[at + 3]);
-    s.ended = LIST[at + 4] == 1;
-    s.marked = LIST[at + 5] == 1;
+    let mut s = segment_of(
+        list_cell(at),
+        list_cell(at + 1),
+        list_cell(at + 2),
+        list_cell(at + 3),
+    );
+    s.ended = list_cell(at + 4) == 1;
+    s.marked = list_cell(at + 5) == 1;
     s
 }
 

@@ -45,6 +45,13 @@ const READ: [u32; 204] = [
     0x00, 12, 0x05CA0190, 40, 0, 11,                // 1 before 2
 ];
 
+fn read_cell(at: usize) -> u32 {
+    if 204 <= at {
+        return 0;
+    }
+    READ[at]
+}
+
 // A number as a place or a length.
 pub fn size(n: u32) -> usize {
     n as usize
@@ -104,12 +111,12 @@ fn read_row(i: usize) {
         return;
     }
     let at = i * 6;
-    let first = READ[at];
-    let p = READ[at + 1];
-    let w = READ[at + 2];
-    let q = READ[at + 3];
-    let v = READ[at + 4];
-    let len = READ[at + 5];
+    let first = read_cell(at);
+    let p = read_cell(at + 1);
+    let w = read_cell(at + 2);
+    let q = read_cell(at + 3);
+    let v = read_cell(at + 4);
+    let len = read_cell(at + 5);
     show::name(b"read");
     show::number(first);
     show::number(p);
@@ -141,6 +148,13 @@ const WRITE: [u32; 70] = [
     101, 5, 64, 400, 15,                            // 12 before 14
 ];
 
+fn write_cell(at: usize) -> u32 {
+    if 70 <= at {
+        return 0;
+    }
+    WRITE[at]
+}
+
 pub fn refusal_of(a: WriteAnswer) -> u8 {
     match a {
         WriteAnswer::Written => 0,
@@ -165,16 +179,16 @@ fn write_row(i: usize) {
     let at = i * 5;
     let r = Report {
         marker: true,
-        payload_type: WRITE[at],
+        payload_type: write_cell(at),
         sequence: 0xFEDC,
         timestamp: 0x01234567,
         ssrc: 0x89ABCDEF,
-        code: WRITE[at + 1],
+        code: write_cell(at + 1),
         ended: true,
-        volume: WRITE[at + 2],
-        duration: WRITE[at + 3],
+        volume: write_cell(at + 2),
+        duration: write_cell(at + 3),
     };
-    let room = WRITE[at + 4];
+    let room = write_cell(at + 4);
     show::name(b"write");
     show::number(r.payload_type);
     show::number(r.code);

@@ -32,6 +32,13 @@ const COUNT: [u32; 105] = [
     357, 5, 10, 400, 400,
 ];
 
+fn count_cell(at: usize) -> u32 {
+    if 105 <= at {
+        return 0;
+    }
+    COUNT[at]
+}
+
 // P7's plan with other numbers.
 fn plan_of(payload_type: u32, code: u32, volume: u32, length: u32, period: u32) -> Plan {
     Plan {
@@ -63,11 +70,11 @@ fn count_row(i: usize) {
     }
     let at = i * 5;
     let p = plan_of(
-        COUNT[at],
-        COUNT[at + 1],
-        COUNT[at + 2],
-        COUNT[at + 3],
-        COUNT[at + 4],
+        count_cell(at),
+        count_cell(at + 1),
+        count_cell(at + 2),
+        count_cell(at + 3),
+        count_cell(at + 4),
     );
     show::name(b"count");
     show::number(p.payload_type);
@@ -104,6 +111,13 @@ const REPORT: [u32; 80] = [
     0, 400, 4, 15,                                  // 12 before 13
 ];
 
+fn report_cell(at: usize) -> u32 {
+    if 80 <= at {
+        return 0;
+    }
+    REPORT[at]
+}
+
 fn written(p: Plan, k: u32, room: usize) {
     if 17 < room {
         return;
@@ -119,9 +133,9 @@ fn report_row(i: usize) {
         return;
     }
     let at = i * 4;
-    let p = plan_of(101, 5, 10, REPORT[at], REPORT[at + 1]);
-    let k = REPORT[at + 2];
-    let room = REPORT[at + 3];
+    let p = plan_of(101, 5, 10, report_cell(at), report_cell(at + 1));
+    let k = report_cell(at + 2);
+    let room = report_cell(at + 3);
     show::name(b"report");
     show::number(p.length);
     show::number(p.period);

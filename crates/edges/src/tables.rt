@@ -17,16 +17,23 @@ const OPEN: [u32; 12] = [
     0, 0xFFFFFFFF, 0xFFFFFFFF,
 ];
 
+fn open_cell(at: usize) -> u32 {
+    if 12 <= at {
+        return 0;
+    }
+    OPEN[at]
+}
+
 fn open_row(i: usize) {
     if OPENS <= i {
         return;
     }
     let at = i * 3;
     show::name(b"open");
-    show::number(OPEN[at]);
-    show::number(OPEN[at + 1]);
-    show::number(OPEN[at + 2]);
-    let o = table::open(OPEN[at], OPEN[at + 1], OPEN[at + 2]);
+    show::number(open_cell(at));
+    show::number(open_cell(at + 1));
+    show::number(open_cell(at + 2));
+    let o = table::open(open_cell(at), open_cell(at + 1), open_cell(at + 2));
     show::name(b" =");
     show::number(o.table.payload_type as u32);
     show::number(o.table.ssrc);
@@ -41,7 +48,7 @@ fn packet_of(r: Report) -> [u8; 16] {
 }
 
 fn receive_bytes(t: Table, b: [u8; 16]) -> Received {
-    table::receive(t, &b[0..16])
+    receive::receive(t, &b[0..16])
 }
 
 // The table after a report was received, and the answer printed: new, known or the refusal's number.
@@ -100,20 +107,27 @@ const RECEIVE: [u32; 104] = [
     100, 8, 0x7FFFFFF0, 5, 400, 10, 0, 1,           // 5 before 6 and 10
 ];
 
+fn receive_cell(at: usize) -> u32 {
+    if 104 <= at {
+        return 0;
+    }
+    RECEIVE[at]
+}
+
 fn receive_row(t: Table, i: usize) -> Table {
     if RECEIVES <= i {
         return t;
     }
     let at = i * 8;
     let r = report_of(
-        RECEIVE[at],
-        RECEIVE[at + 1],
-        RECEIVE[at + 2],
-        RECEIVE[at + 3],
-        RECEIVE[at + 4],
-        RECEIVE[at + 5],
-        RECEIVE[at + 6] == 1,
-        RECEIVE[at + 7] == 1,
+        receive_cell(at),
+        receive_cell(at + 1),
+        receive_cell(at + 2),
+        receive_cell(at + 3),
+        receive_cell(at + 4),
+        receive_cell(at + 5),
+        receive_cell(at + 6) == 1,
+        receive_cell(at + 7) == 1,
     );
     show::name(b"receive");
     show::number(r.payload_type);
@@ -206,6 +220,13 @@ const TEST: [u32; 120] = [
     0, 128, 16, 6, 1, 0,
 ];
 
+fn test_cell(at: usize) -> u32 {
+    if 120 <= at {
+        return 0;
+    }
+    TEST[at]
+}
+
 fn byte(n: u32) -> u8 {
     (n % 256) as u8
 }
@@ -231,10 +252,15 @@ fn made(i: usize) -> Table {
     let mut t = o.table;
     if i < TESTS {
         let at = i * 6;
-        t.count = size(TEST[at]);
-        t.payload_type = byte(TEST[at + 1]);
+        t.count = size(test_cell(at));
+        t.payload_type = byte(test_cell(at + 1));
         t.segments[0] = segment_of(16, 5, 1, 63);
-        t.segments[1] = segment_of(TEST[at + 2], TEST[at + 3], TEST[at + 4], TEST[at + 5]);
+        t.segments[1] = segment_of(
+            test_cell(at + 2),
+            test_cell(at + 3),
+            test_cell(at + 4),
+            test_cell(at + 5),
+        );
     }
     t
 }
@@ -245,17 +271,17 @@ fn test_row(i: usize) {
     }
     let at = i * 6;
     show::name(b"table");
-    show::number(TEST[at]);
-    show::number(TEST[at + 1]);
-    show::number(TEST[at + 2]);
-    show::number(TEST[at + 3]);
-    show::number(TEST[at + 4]);
-    show::number(TEST[at + 5]);
+    show::number(test_cell(at));
+    show::number(test_cell(at + 1));
+    show::number(test_cell(at + 2));
+    show::number(test_cell(at + 3));
+    show::number(test_cell(at + 4));
+    show::number(test_cell(at + 5));
     let t = made(i);
     show::name(b" passes");
     show::number(table::is_valid(t) as u32);
     show::name(b", receive of no bytes");
-    let got = table::receive(t, b"");
+    let got = receive::receive(t, b"");
     let a = got.answer;
     match a {
         ReceiveAnswer::New => show::name(b" -> new\n"),

@@ -6,8 +6,8 @@ use mathlib.Core.List.{List, [], _∷_, map}
 use native.Mathlib.Numerals.{add-one}
 use native.Mathlib.Omega.{arith}
 use borrow.Author.Needs.{needs}
-use borrow.Author.Tests.{lt-ltb, le-ltb, eq-eqb, ne-eqb, not-true, not-false}
-use lib.Dec.{eqb}
+use borrow.Author.Tests.{lt-ltb, le-ltb, ltb-true, ltb-false, eq-eqb, ne-eqb, not-true, not-false}
+use lib.Dec.{eqb, ltb}
 use lib.ListN.{length, getD, drop, length-take, length-map, drop-of-length-le}
 use lib.Seq.{drop-cons, getD-take}
 use Rattle.model.specs.declared.Segment.{Segment}
@@ -18,7 +18,7 @@ use Rattle.model.specs.Refusals.{noEvent, answered, refusedBy}
 use Rattle.model.specs.Table.{noSegment, held, valid}
 use Rattle.model.specs.Events.{units, loudness, lastEnded, eventOf, continues, continuesNearest, continuing, eventsFrom}
 use Rattle.model.specs.List.{events, eventAt}
-use Rattle.events.specs.Places.{segmentAt, earlier, continuesEarlier, continuations, lengthened, eventFrom, eventsAfter}
+use Rattle.events.specs.Places.{segmentAt, earlier, continuesEarlier, continuations, lengthened, eventFrom, eventsAfter, Reached}
 use Rattle.events.specs.Answer.{answerFor}
 
 -- an array's elements are as many as what they are told as
@@ -46,30 +46,7 @@ module _ (t : Table) where
       let below : i < t .count = omega (arith, length-take (t .count) (t .segments)) in
       drop-cons (held t) i noSegment h ∙ rw (getD-take (t .count) (t .segments) i noSegment below, add-one)
 
-  -- LOOKING BACK
-
-  module _ (i : ℕ) where
-    pub back-start : continuesNearest isFull (earlier t i) (segmentAt t i) ≡ continuesEarlier t i
-    unfolding continuesEarlier
-    back-start = refl
-
-    module _ (j : ℕ) (inv : continuesNearest isFull (earlier t j) (segmentAt t i) ≡ continuesEarlier t i) where
-      pub back-end : j ≤ 0 → false ≡ continuesEarlier t i
-      unfolding continuesNearest earlier
-      back-end h = let z : j ≡ 0 = omega arith in rw z at inv
-
-      module _ (some : 0 < j) where
-        back : earlier t j ≡ segmentAt t (j - 1) ∷ earlier t (j - 1)
-        unfolding earlier
-        back = let z : j ≡ suc (j - 1) = omega arith in ap (earlier t) z
-
-        pub back-found : (r : Bool) → segmentAt t (j - 1) .code ≡ segmentAt t i .code → r ≡ continues isFull (segmentAt t (j - 1)) (segmentAt t i) → r ≡ continuesEarlier t i
-        unfolding continuesNearest
-        back-found r e h = h ∙ (rw (eq-eqb (segmentAt t (j - 1) .code) (segmentAt t i .code) e) at (rw back at inv))
-
-        pub back-pass : (segmentAt t (j - 1) .code ≡ segmentAt t i .code → ⊥) → continuesNearest isFull (earlier t (j - 1)) (segmentAt t i) ≡ continuesEarlier t i
-        unfolding continuesNearest
-        back-pass e = rw (ne-eqb (segmentAt t (j - 1) .code) (segmentAt t i .code) e) at (rw back at inv)
+-- LOOKING BACK
 
 cond-same : (b : Bool) {x y : Bool} → x ≡ false → y ≡ false → cond b x y ≡ false
 cond-same true e f = e
@@ -80,6 +57,49 @@ marked-none : (l : List Segment) (s : Segment) → s .marked ≡ true → contin
 unfolding continuesNearest
 marked-none [] s h = refl
 marked-none (p ∷ ps) s h = cond-same (eqb (p .code) (s .code)) (rw h) (marked-none ps s h)
+
+-- whether the segment at place j begins an event: what is before place i decides, until one of its code is met
+pub record Looking (t : Table) (j i : ℕ) (begins : Bool) : Type 0 where
+  pub within : i ≤ j
+  pub going : 0 < i → (begins ≡ true) × (continuesNearest isFull (earlier t i) (segmentAt t j) ≡ continuesEarlier t j)
+  pub done : i ≤ 0 → begins ≡ not (continuesEarlier t j)
+
+module _ (t : Table) (j : ℕ) where
+  -- nothing of its code was met before place i
+  unmet : (i : ℕ) → i ≤ j → continuesNearest isFull (earlier t i) (segmentAt t j) ≡ continuesEarlier t j → Looking t j i true
+  unfolding continuesNearest earlier
+  unmet i h e = record { within = h; going = λ z. (refl, e); done = λ z. (let y : i ≡ 0 = omega arith in ap not (rw y at e)) }
+
+  pub look-start : (i : ℕ) → i ≡ cond (segmentAt t j .marked) 0 j → Looking t j i true
+  unfolding continuesNearest earlier continuesEarlier
+  look-start i e = go (segmentAt t j .marked) refl e
+    where
+      go : (m : Bool) → segmentAt t j .marked ≡ m → i ≡ cond m 0 j → Looking t j i true
+      go true h e = unmet i (omega arith) (rw e (sym (marked-none (earlier t j) (segmentAt t j) h)))
+      go false h e = unmet i (omega arith) (rw e)
+
+  module _ (i : ℕ) (b : Bool) (w : Looking t j i b) where
+    pub look-end : i ≤ 0 → b ≡ not (continuesEarlier t j)
+    look-end = w .done
+
+    module _ (some : 0 < i) where
+      back : continuesNearest isFull (segmentAt t (i - 1) ∷ earlier t (i - 1)) (segmentAt t j) ≡ continuesEarlier t j
+      unfolding earlier
+      back = let z : i ≡ suc (i - 1) = omega arith in ap (λ (n : ℕ). continuesNearest isFull (earlier t n) (segmentAt t j)) (sym z) ∙ w .going some .1
+
+      pub look-found : segmentAt t (i - 1) .code ≡ segmentAt t j .code → (r : Bool) → r ≡ continues isFull (segmentAt t (i - 1)) (segmentAt t j) → Looking t j 0 (not r)
+      unfolding continuesNearest
+      look-found e r h = record {
+        within = omega arith;
+        going = λ z. absurd (omega arith);
+        done = λ z. ap not (h ∙ (rw (eq-eqb (segmentAt t (i - 1) .code) (segmentAt t j .code) e) at back));
+      }
+
+      pub look-pass : (segmentAt t (i - 1) .code ≡ segmentAt t j .code → ⊥) → Looking t j (i - 1) b
+      unfolding continuesNearest
+      look-pass e =
+          rw (w .going some .0)
+          (unmet (i - 1) (omega (arith, w .within)) (rw (ne-eqb (segmentAt t (i - 1) .code) (segmentAt t j .code) e) at back))
 
 -- ONE EVENT
 
@@ -149,72 +169,90 @@ module _ (v w : Event) (j : ℕ) (bound : v .length ≤ j * 65535) where
 
 -- THE EVENTS BY NUMBER
 
-module _ (t : Table) where
+-- a walk to event k stands at place j: so many events begin before it, event k none of them
+pub record Walking (t : Table) (k j before : ℕ) : Type 0 where
+  pub within : before ≤ j
+  pub below : before ≤ k
+  pub reach : j ≤ length (held t)
+  pub count : before + length (eventsAfter t j) ≡ length (events t)
+  pub event : getD (eventsAfter t j) (k - before) noEvent ≡ getD (events t) k noEvent
+
+module _ (t : Table) (k : ℕ) where
   all-after : eventsAfter t 0 ≡ events t
   unfolding earlier eventsAfter
   all-after = refl
 
-  pub count-start : 0 + length (eventsAfter t 0) ≡ length (events t)
-  count-start = omega (arith, ap length all-after)
+  pub walk-starts : Walking t k 0 0
+  walk-starts = record {
+    within = omega arith;
+    below = omega arith;
+    reach = omega arith;
+    count = omega (arith, ap length all-after);
+    event = let z : k - 0 ≡ k = omega arith in rw z (ap (λ (l : List Event). getD l k noEvent) all-after);
+  }
 
-  pub number-start : (k : ℕ) → getD (eventsAfter t 0) k noEvent ≡ getD (events t) k noEvent
-  number-start k = ap (λ (l : List Event). getD l k noEvent) all-after
+  module _ (j before : ℕ) (w : Walking t k j before) (n : ℕ) (all : n ≡ length (held t)) where
+    none-left : n ≤ j → eventsAfter t j ≡ []
+    unfolding eventsFrom eventsAfter
+    none-left h = rw (drop-of-length-le (held t) {i = j} (omega arith))
 
-  module _ (j : ℕ) where
-    pub marked-begins : segmentAt t j .marked ≡ true → continuesEarlier t j ≡ false
-    unfolding continuesEarlier
-    marked-begins h = marked-none (earlier t j) (segmentAt t j) h
+    pub walk-ends : n ≤ j → Reached t k n before
+    walk-ends h = record {
+      within = omega (arith, w .within, w .reach);
+      reach = omega arith;
+      found = λ z. absurd (omega arith);
+      past = λ z. (omega (arith, w .count, ap length (none-left h)), rw (none-left h) at (sym (w .event)));
+    }
 
-    module _ (r : Bool) (test : r ≡ continuesEarlier t j) where
-      pub new-begins : not r ≡ true → continuesEarlier t j ≡ false
-      new-begins x = sym test ∙ not-true r x
+    module _ (less : j < n) (b : Bool) (look : b ≡ not (continuesEarlier t j)) where
+      by-test : eventsAfter t j ≡ cond (continuesEarlier t j) (eventsAfter t (j + 1)) (eventFrom t j ∷ eventsAfter t (j + 1))
+      unfolding earlier continuesEarlier continuations eventFrom eventsFrom eventsAfter
+      by-test = rw (add-one j, front t j (omega arith), add-one j)
 
-      pub old-passes : not r ≡ false → continuesEarlier t j ≡ true
-      old-passes x = sym test ∙ not-false r x
+      pub walk-passes : b ≡ false → (m : ℕ) → m ≡ before → Walking t k (j + 1) m
+      walk-passes e m is =
+          let same : eventsAfter t j ≡ eventsAfter t (j + 1) = rw (not-false (continuesEarlier t j) (sym look ∙ e)) at by-test in
+          rw is (record { within = omega (arith, w .within); below = w .below; reach = omega arith; count = rw same at (w .count); event = rw same at (w .event) })
 
-    module _ (n : ℕ) (all : n ≡ length (held t)) where
-      none-left : n ≤ j → eventsAfter t j ≡ []
-      unfolding eventsFrom eventsAfter
-      none-left h = rw (drop-of-length-le (held t) {i = j} (omega arith))
+      module _ (e : b ≡ true) where
+        begins : eventsAfter t j ≡ eventFrom t j ∷ eventsAfter t (j + 1)
+        begins = rw (not-true (continuesEarlier t j) (sym look ∙ e)) at by-test
 
-      module _ (less : j < n) where
-        by-test : eventsAfter t j ≡ cond (continuesEarlier t j) (eventsAfter t (j + 1)) (eventFrom t j ∷ eventsAfter t (j + 1))
-        unfolding earlier continuesEarlier continuations eventFrom eventsFrom eventsAfter
-        by-test = rw (add-one j, front t j (omega arith), add-one j)
+        pub walk-found : before ≡ k → Reached t k j before
+        walk-found z =
+            let zero : k - before ≡ 0 = omega arith in
+            record {
+              within = w .within;
+              reach = w .reach;
+              found = λ y. (z, sym (rw (zero, begins) at (w .event)));
+              past = λ y. absurd (omega arith);
+            }
 
-        begins : continuesEarlier t j ≡ false → eventsAfter t j ≡ eventFrom t j ∷ eventsAfter t (j + 1)
-        begins x = rw x at by-test
+        pub walk-on : (before ≡ k → ⊥) → (m : ℕ) → m ≡ before + 1 → Walking t k (j + 1) m
+        walk-on z m is =
+            let more : k - before ≡ suc (k - m) = omega (arith, w .below) in
+            record {
+              within = omega (arith, w .within);
+              below = omega (arith, w .below);
+              reach = omega arith;
+              count = omega (arith, w .count, ap length begins);
+              event = rw (more, begins) at (w .event);
+            }
 
-        passes : continuesEarlier t j ≡ true → eventsAfter t j ≡ eventsAfter t (j + 1)
-        passes x = rw x at by-test
+-- no event has the number 128
+pub all-walked : (t : Table) (place before : ℕ) → length (t .segments) ≡ 128 → Reached t 128 place before → before ≡ length (events t)
+all-walked t place before places w = go (ltb place (length (held t))) refl
+  where
+    go : (b : Bool) → ltb place (length (held t)) ≡ b → before ≡ length (events t)
+    go true e = let h = ltb-true place (length (held t)) e in absurd (omega (arith, w .found h .0, w .within, length-take (t .count) (t .segments)))
+    go false e = let h = ltb-false place (length (held t)) e in w .past (omega (arith, w .reach)) .0
 
-      module _ (k : ℕ) (inv : k + length (eventsAfter t j) ≡ length (events t)) where
-        pub count-end : n ≤ j → k ≡ length (events t)
-        count-end h = omega (arith, ap length (none-left h))
+module _ (t : Table) (k place before : ℕ) (w : Reached t k place before) (n : ℕ) (all : n ≡ length (held t)) where
+  pub event-reached : place < n → (v : Event) → v ≡ eventFrom t place → v ≡ getD (events t) k noEvent
+  event-reached h v e = e ∙ sym (w .found (omega arith) .1)
 
-        module _ (less : j < n) (m : ℕ) where
-          pub count-more : continuesEarlier t j ≡ false → m ≡ k + 1 → m + length (eventsAfter t (j + 1)) ≡ length (events t)
-          count-more x e = omega (arith, ap length (begins less x))
-
-          pub count-pass : continuesEarlier t j ≡ true → m ≡ k → m + length (eventsAfter t (j + 1)) ≡ length (events t)
-          count-pass x e = omega (arith, ap length (passes less x))
-
-      module _ (k left : ℕ) (inv : getD (eventsAfter t j) left noEvent ≡ getD (events t) k noEvent) where
-        pub event-none : n ≤ j → noEvent ≡ getD (events t) k noEvent
-        event-none h = rw (none-left h) at inv
-
-        module _ (less : j < n) where
-          pub event-later : continuesEarlier t j ≡ true → (m : ℕ) → m ≡ left → getD (eventsAfter t (j + 1)) m noEvent ≡ getD (events t) k noEvent
-          event-later x m e = rw e (rw (passes less x) at inv)
-
-          module _ (x : continuesEarlier t j ≡ false) where
-            pub event-here : left ≡ 0 → (v : Event) → v ≡ eventFrom t j → v ≡ getD (events t) k noEvent
-            event-here z v e = e ∙ (rw (z, begins less x) at inv)
-
-            pub event-after : (left ≡ 0 → ⊥) → (m : ℕ) → m ≡ left - 1 → getD (eventsAfter t (j + 1)) m noEvent ≡ getD (events t) k noEvent
-            event-after z m e =
-                let p : left ≡ suc m = omega arith in
-                rw (begins less x) at (ap (λ (y : ℕ). getD (eventsAfter t j) y noEvent) (sym p) ∙ inv)
+  pub event-none : n ≤ place → noEvent ≡ getD (events t) k noEvent
+  event-none h = sym (w .past (omega (arith, w .reach)) .1)
 
 -- THE EVENT AT A NUMBER, AND THE LIST CALL'S ANSWER
 
@@ -254,10 +292,10 @@ pub ruleset table-events = (
   short,
   whole,
   all-held,
-  back-start,
-  back-end,
-  back-found,
-  back-pass,
+  look-start,
+  look-end,
+  look-found,
+  look-pass,
   more,
   event-start,
   event-end,
@@ -266,18 +304,14 @@ pub ruleset table-events = (
   event-more,
   length-same,
   length-more,
-  marked-begins,
-  new-begins,
-  old-passes,
-  count-start,
-  count-end,
-  count-more,
-  count-pass,
-  number-start,
+  walk-starts,
+  walk-ends,
+  walk-passes,
+  walk-found,
+  walk-on,
+  all-walked,
+  event-reached,
   event-none,
-  event-later,
-  event-here,
-  event-after,
   fails-test,
   number-zero,
   number-high,

@@ -1,11 +1,9 @@
 // Which segment of a table continues which.
 ghost use mathlib.Core.Path.{_≡_};
-ghost use Prim.Native.Nat.{_<_, min};
+ghost use Prim.Native.Nat.{min};
 ghost use Rattle.model.specs.Limits.{isFull};
 ghost use Rattle.model.specs.Events.{continues};
-ghost use Rattle.events.specs.Places.{continuesEarlier};
 use model::Segment;
-use model::Table;
 
 // How many segments a table holds of which `count` are said to be held: no more than there are places.
 pub fn number_held(count: usize) -> usize
@@ -31,21 +29,4 @@ pub fn continues(p: Segment, s: Segment) -> bool
         return false;
     }
     (p.offset as u64) + (p.duration as u64) == (s.offset as u64)
-}
-
-// Whether the segment at place i continues an earlier one.
-pub fn continues_earlier(t: Table, i: usize) -> bool
-    requires { ⌜ i < 128 ⌝ }
-    ensures { λ r. ⌜ r ≡ continuesEarlier t i ⌝ }
-{
-    let s = t.segments[i];
-    let mut j = i;
-    while 0 < j {
-        j -= 1;
-        let p = t.segments[j];
-        if p.code == s.code {
-            return continues(p, s);
-        }
-    }
-    false
 }

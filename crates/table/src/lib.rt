@@ -1,11 +1,7 @@
-// The receiving table: its opening, its tests and the receiving call.
+// The receiving table: its opening, its tests and the steps of the receiving calls.
 mod opening;
-mod receiving;
-mod receiving_valid;
-mod taking;
-mod valid;
+pub mod taking;
+pub mod valid;
 
 pub use opening::open;
-pub use receiving::receive;
-pub use receiving_valid::receive_valid;
 pub use valid::is_valid;

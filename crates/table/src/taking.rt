@@ -1,11 +1,34 @@
-// A report taken into a table.
+// The steps of a receiving call: the offset of a report, a refusal, a report taken into a table.
 ghost use mathlib.Core.Path.{_≡_};
 ghost use mathlib.Core.Bool.{_||_};
 ghost use Prim.Native.Nat.{_≤_, _<_, min, max};
 ghost use Rattle.model.specs.Segments.{merge};
-ghost use Rattle.table.specs.Taken.{inserted};
+ghost use Rattle.model.specs.Receive.{offset};
+ghost use Rattle.table.specs.Taken.{refusedWith, inserted};
+use model::ReceiveAnswer;
+use model::Received;
 use model::Segment;
 use model::Table;
+
+// (timestamp - origin) modulo 2^32.
+pub fn offset_of(origin: u32, timestamp: u32) -> u32
+    ensures { λ r. ⌜ r ≡ offset origin timestamp ⌝ }
+{
+    if origin <= timestamp {
+        return timestamp - origin;
+    }
+    timestamp + (0xffff_ffff - origin) + 1
+}
+
+// A refusal, with the table as it was.
+pub fn refuse(t: Table, n: u8) -> Received
+    ensures { λ r. ⌜ r ≡ refusedWith n t ⌝ }
+{
+    Received {
+        table: t,
+        answer: ReceiveAnswer::Refused(n),
+    }
+}
 
 fn larger(a: u16, b: u16) -> u16
     ensures { λ r. ⌜ r ≡ max a b ⌝ }

@@ -1,7 +1,7 @@
 // What C and Rust link: the library's calls, with structs that hold a number in place of enums. A slice crosses as a pointer
 // and a length. Every function checks its own input; refusal 0 means that nothing was refused.
 ghost use mathlib.Core.Path.{_≡_};
-ghost use Rattle.model.specs.Refusals.{noReport, noEvent, toldReceive};
+ghost use Rattle.model.specs.Refusals.{noReport, noEvent};
 ghost use Rattle.model.specs.Packet.{read, write};
 ghost use Rattle.model.specs.Plan.{countReports, writePlanned};
 ghost use Rattle.model.specs.Table.{valid, opened};
@@ -156,42 +156,30 @@ pub extern "C" fn twimbor_is_valid(t: Table) -> bool
     table::is_valid(t)
 }
 
-// The refusal's number; 0 if the packet was taken.
-fn receive_refusal(a: ReceiveAnswer) -> u8
-    ensures { λ r. ⌜ r ≡ toldReceive a .number ⌝ }
-{
-    match a {
-        ReceiveAnswer::New => 0,
-        ReceiveAnswer::Known => 0,
-        ReceiveAnswer::Refused(n) => n,
-    }
-}
-
-// Whether the packet was taken and its segment is new.
-fn says_new(a: ReceiveAnswer) -> bool
-    ensures { λ r. ⌜ r ≡ toldReceive a .values ⌝ }
-{
-    match a {
-        ReceiveAnswer::New => true,
-        ReceiveAnswer::Known => false,
-        ReceiveAnswer::Refused(_n) => false,
-    }
-}
-
 // Receives a packet: its report is taken into the table, or it is refused with 16 or 1 to 11 and the table is as it was.
 #[no_mangle]
 pub extern "C" fn twimbor_receive(t: Table, s: &[u8]) -> ReceiveResult
     ensures { λ r. ⌜ r ≡ receiveResult (receive t (now (s .entry))) ⌝ }
 {
-    let got = table::receive(t, s);
-    let a = got.answer;
-    let refusal = receive_refusal(a);
-    let is_new = says_new(a);
+    let got = receive::receive(t, s);
     let u = got.table;
-    ReceiveResult {
-        table: u,
-        refusal: refusal,
-        is_new: is_new,
+    let a = got.answer;
+    match a {
+        ReceiveAnswer::New => ReceiveResult {
+            table: u,
+            refusal: 0,
+            is_new: true,
+        },
+        ReceiveAnswer::Known => ReceiveResult {
+            table: u,
+            refusal: 0,
+            is_new: false,
+        },
+        ReceiveAnswer::Refused(reason) => ReceiveResult {
+            table: u,
+            refusal: reason,
+            is_new: false,
+        },
     }
 }
 

@@ -6,12 +6,12 @@ use mathlib.Core.Logic.{⊎-elim}
 use native.Mathlib.Omega.{arith}
 use borrow.Author.Needs.{needs}
 use lib.ListN.{length}
 use Rattle.table.proofs.Places.{Between, Other}
 use Rattle.table.proofs.Receives.{hears}
 use Rattle.table.proofs.Answers.{Heard, answering-valid, goes-up, goes-down, known-answer, new-answer}
 use Rattle.table.proofs.Laws.{receiving}
-use Rattle.table.proofs.receiving_valid.receive_valid.Statement.{statement}
-use Rattle.table.proofs.receiving_valid.receive_valid.Tie as tie
+use Rattle.receive_valid.proofs.receive_valid.Statement.{statement}
+use Rattle.receive_valid.proofs.receive_valid.Tie as tie
 
 abbrev Inv-loop : tie.InvT-loop
 Inv-loop s t start end code ended volume duration offset r n wanted low₀ high₀ low high =

@@ -1,14 +1,7 @@
-// The receiving call of a caller that knows its table to pass the tests, as after an opening or another such call.
+// The receiving call.
 ghost use mathlib.Core.Path.{_≡_};
-ghost use mathlib.Core.Bool.{true};
 ghost use Rattle.model.specs.Refusals.{toldReceive};
 ghost use Rattle.model.specs.Receive.{receive};
-ghost use Rattle.model.specs.Table.{valid};
-use super::receiving::offset_of;
-use super::receiving::refuse;
-use super::taking::insert;
-use super::taking::merged;
-use super::valid::key_of;
 use model::ReceiveAnswer;
 use model::Received;
 use model::Segment;
@@ -23,14 +16,40 @@ use packet::header::timestamp;
 use packet::payload::Payload;
 use packet::payload::payload_of;
 use packet::payload::payload_refusal;
+use table::taking::insert;
+use table::taking::merged;
+use table::taking::offset_of;
+use table::taking::refuse;
+use table::valid::in_ranges;
+use table::valid::key_of;
 
-// Receives a packet into a table that passes the tests, and leaves one that passes them: refusals 1 to 11.
-pub fn receive_valid(mut t: Table, s: &[u8]) -> Received
-    requires { ⌜ valid t ≡ true ⌝ }
+// Receives a packet: the report that it carries is taken into the table, or the packet is refused with 16, 1 to 11 and the
+// table is as it was. All of it is one function because each call that takes a table copies it.
+pub fn receive(mut t: Table, s: &[u8]) -> Received
     ensures { λ r. ⌜ toldReceive (r .answer) ≡ receive t (now (s .entry)) .answer ⌝ }
     ensures { λ r. ⌜ r .table ≡ receive t (now (s .entry)) .table ⌝ }
-    ensures { λ r. ⌜ valid (r .table) ≡ true ⌝ }
 {
+    let n = t.count;
+    if 128 < n {
+        return refuse(t, model::INVALID_TABLE);
+    }
+    if 127 < t.payload_type {
+        return refuse(t, model::INVALID_TABLE);
+    }
+    let mut i = 0;
+    let mut next: u64 = 0;
+    while i < n {
+        let tested = t.segments[i];
+        if !in_ranges(tested) {
+            return refuse(t, model::INVALID_TABLE);
+        }
+        let key = key_of(tested);
+        if key < next {
+            return refuse(t, model::INVALID_TABLE);
+        }
+        next = key + 1;
+        i += 1;
+    }
     let h = header_of(s);
     let Header::Found { start, end } = h else {
         return refuse(t, header_refusal(h));
@@ -63,7 +82,6 @@ pub fn receive_valid(mut t: Table, s: &[u8]) -> Received
         ended: ended,
         marked: marker(s),
     };
-    let n = t.count;
     let wanted = key_of(r);
     let mut low = 0;
     let mut high = n;

@@ -1,12 +1,9 @@
-// The receiving call.
+// The receiving call of a caller that knows its table to pass the tests, as after an opening or another such call.
 ghost use mathlib.Core.Path.{_≡_};
+ghost use mathlib.Core.Bool.{true};
 ghost use Rattle.model.specs.Refusals.{toldReceive};
-ghost use Rattle.model.specs.Receive.{offset, receive};
-ghost use Rattle.table.specs.Taken.{refusedWith};
-use super::taking::insert;
-use super::taking::merged;
-use super::valid::in_ranges;
-use super::valid::key_of;
+ghost use Rattle.model.specs.Receive.{receive};
+ghost use Rattle.model.specs.Table.{valid};
 use model::ReceiveAnswer;
 use model::Received;
 use model::Segment;
@@ -21,54 +18,19 @@ use packet::header::timestamp;
 use packet::payload::Payload;
 use packet::payload::payload_of;
 use packet::payload::payload_refusal;
+use table::taking::insert;
+use table::taking::merged;
+use table::taking::offset_of;
+use table::taking::refuse;
+use table::valid::key_of;
 
-// (timestamp - origin) modulo 2^32.
-pub fn offset_of(origin: u32, timestamp: u32) -> u32
-    ensures { λ r. ⌜ r ≡ offset origin timestamp ⌝ }
-{
-    if origin <= timestamp {
-        return timestamp - origin;
-    }
-    timestamp + (0xffff_ffff - origin) + 1
-}
-
-// A refusal, with the table as it was.
-pub fn refuse(t: Table, n: u8) -> Received
-    ensures { λ r. ⌜ r ≡ refusedWith n t ⌝ }
-{
-    Received {
-        table: t,
-        answer: ReceiveAnswer::Refused(n),
-    }
-}
-
-// Receives a packet: the report that it carries is taken into the table, or the packet is refused with 16, 1 to 11 and the
-// table is as it was. All of it is one function because each call that takes a table copies it.
-pub fn receive(mut t: Table, s: &[u8]) -> Received
+// Receives a packet into a table that passes the tests, and leaves one that passes them: refusals 1 to 11.
+pub fn receive_valid(mut t: Table, s: &[u8]) -> Received
+    requires { ⌜ valid t ≡ true ⌝ }
     ensures { λ r. ⌜ toldReceive (r .answer) ≡ receive t (now (s .entry)) .answer ⌝ }
     ensures { λ r. ⌜ r .table ≡ receive t (now (s .entry)) .table ⌝ }
+    ensures { λ r. ⌜ valid (r .table) ≡ true ⌝ }
 {
-    let n = t.count;
-    if 128 < n {
-        return refuse(t, model::INVALID_TABLE);
-    }
-    if 127 < t.payload_type {
-        return refuse(t, model::INVALID_TABLE);
-    }
-    let mut i = 0;
-    let mut next: u64 = 0;
-    while i < n {
-        let tested = t.segments[i];
-        if !in_ranges(tested) {
-            return refuse(t, model::INVALID_TABLE);
-        }
-        let key = key_of(tested);
-        if key < next {
-            return refuse(t, model::INVALID_TABLE);
-        }
-        next = key + 1;
-        i += 1;
-    }
     let h = header_of(s);
     let Header::Found { start, end } = h else {
         return refuse(t, header_refusal(h));
@@ -101,6 +63,7 @@ pub fn receive(mut t: Table, s: &[u8]) -> Received
         ended: ended,
         marked: marker(s),
     };
+    let n = t.count;
     let wanted = key_of(r);
     let mut low = 0;
     let mut high = n;

@@ -9,13 +9,13 @@ use borrow.Author.Needs.{needs}
 use lib.ListN.{length, drop}
 use Rattle.model.specs.Table.{held, valid}
 use Rattle.packet.proofs.Laws.{header-whole, ends-within}
 use Rattle.table.proofs.Keys.{validFrom}
 use Rattle.table.proofs.Places.{Between, Other}
 use Rattle.table.proofs.Receives.{hears}
 use Rattle.table.proofs.Answers.{Heard, answering, answering-too, goes-up, goes-down, known-answer, new-answer}
 use Rattle.table.proofs.Laws.{receiving}
-use Rattle.table.proofs.receiving.receive.Statement.{statement}
-use Rattle.table.proofs.receiving.receive.Tie as tie
+use Rattle.receive.proofs.receive.Statement.{statement}
+use Rattle.receive.proofs.receive.Tie as tie
 
 abbrev Inv-loop : tie.InvT-loop
 Inv-loop s t n i₀ next₀ i next = (i ≤ n) × (validFrom next (drop i (held t)) ≡ validFrom 0 (held t))
