@@ -1,0 +1,4 @@
+// An empty capture.
+fn main() {
+    listing::run();
+}

@@ -1,0 +1,4 @@
+// A capture that ends within the length of a frame.
+fn main() {
+    listing::run();
+}

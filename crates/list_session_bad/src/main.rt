@@ -1,0 +1,4 @@
+// A session with a payload type that open refuses.
+fn main() {
+    listing::run();
+}

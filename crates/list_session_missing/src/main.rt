@@ -1,0 +1,4 @@
+// No session.txt.
+fn main() {
+    listing::run();
+}

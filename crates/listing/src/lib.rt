@@ -1,0 +1,45 @@
+// The listing program: a session and a capture are read, and the capture's events printed.
+mod capture;
+mod print;
+
+use framing::Session;
+use framing::session_of;
+use model::Table;
+
+// Lists what a table that passes the tests holds after a capture. They are made once here, and receiving keeps them.
+fn list_into(t: Table, capture: i32) {
+    if !table::is_valid(t) {
+        print::bad_session();
+        return;
+    }
+    print::listing(capture::received(t, capture));
+}
+
+// Lists the events of a capture, both given as open files; a session that is bad in any way, or no file, is `session=bad`.
+pub fn list_events(session: i32, capture: i32) {
+    let mut text = [0u8; 64];
+    let n = io::read_full(session, &mut text);
+    let given = session_of(&text[0..n]);
+    let Session::Given {
+        payload_type,
+        ssrc,
+        origin,
+    } = given
+    else {
+        print::bad_session();
+        return;
+    };
+    let opened = table::open(payload_type, ssrc, origin);
+    if opened.refusal != 0 {
+        print::bad_session();
+        return;
+    }
+    list_into(opened.table, capture);
+}
+
+// Lists the capture on standard input, with session.txt of the working directory.
+pub fn run() {
+    let session = os::open_read(b"session.txt");
+    list_events(session, libc::STDIN_FILENO);
+    libc::close(session);
+}

@@ -1,0 +1,47 @@
+// What the listing program prints.
+use super::capture::Capture;
+use model::Event;
+use model::EventAnswer;
+use model::Table;
+
+pub fn bad_session() {
+    io::write_all(libc::STDOUT_FILENO, b"session=bad\n");
+}
+
+// One line: a name and a number.
+fn line(name: &[u8], n: u64) {
+    io::write_all(libc::STDOUT_FILENO, name);
+    io::print_decimal(libc::STDOUT_FILENO, n);
+    io::write_all(libc::STDOUT_FILENO, b"\n");
+}
+
+fn event(v: Event) {
+    line(b"start=", v.start as u64);
+    line(b"key=", v.code as u64);
+    line(b"units=", v.length as u64);
+    line(b"volume=", v.volume as u64);
+    line(b"began=", v.began as u64);
+    line(b"ended=", v.ended as u64);
+}
+
+// The events one by one, until a number is refused; answers how many there are. A table has at most 128.
+fn events(t: Table) -> u32 {
+    let mut k = 0u32;
+    while k < 128 {
+        let a = events::event_at(t, k + 1);
+        let EventAnswer::Found(v) = a else {
+            return k;
+        };
+        event(v);
+        k += 1;
+    }
+    k
+}
+
+pub fn listing(c: Capture) {
+    let n = events(c.table);
+    line(b"events=", n as u64);
+    line(b"taken=", c.taken);
+    line(b"refused=", std::num::wrapping_sub_u64(c.frames, c.taken));
+    line(b"cut=", c.cut as u64);
+}
