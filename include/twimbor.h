@@ -66,16 +66,32 @@ typedef struct {
     uint8_t refusal;
 } twimbor_count_result;
 
-/* Reads a packet: refusal 1, 2, 3, 4, 7, 8 or 9, or the report that it carries. */
+/* Reads a packet of `length` bytes: the one report that it carries. CSRC list, extension and padding are passed over.
+ *
+ * Refused, in this order: 1 with fewer than 12 bytes; 2 if the version is not 2; 3 if the CSRC list or the extension runs past
+ * the end; 4 if P is set and the pad count is 0 or above the bytes after header, CSRC list and extension; 7 if the payload is
+ * not 4 bytes; 8 if the code is above 15; 9 if the duration is 0. The report is then all zeros. */
 twimbor_read_result twimbor_read(const uint8_t *packet, size_t length);
 
-/* Writes a report's 16 bytes at the start of the output; 12 or 14. */
+/* Writes the 16 bytes of a report's packet at the start of the output of `length` bytes; the bytes after them stay. No CSRC list,
+ * extension or padding is written. twimbor_read gives the report back.
+ *
+ * Answers 0, or refuses, in this order: 12 if the payload type is above 127, the code above 15, the volume above 63, or the
+ * duration 0 or above 65535; 14 if the output has fewer than 16 bytes. All of the output then stays. */
 uint8_t twimbor_write(twimbor_report report, uint8_t *output, size_t length);
 
-/* How many reports a plan has; 12. */
+/* How many reports a plan has. An event is cut into segments of 65535 units; a segment of L units is reported at each multiple of
+ * the period below L, and at L three times.
+ *
+ * Refused: 12 if the payload type is above 127, the code above 15, the volume above 63, the length 0 or above 1048560, or the
+ * period 0 or above 65535. The number of reports is then 0. */
 twimbor_count_result twimbor_report_count(twimbor_plan plan);
 
-/* Writes report k of a plan, counted from 1, at the start of the output; 12, 13 or 14. */
+/* Writes the 16 bytes of report k of a plan, counted from 1, at the start of the output of `length` bytes; the bytes after them
+ * stay. The first report carries the marker, and on the last segment the second and third report of its full length carry E.
+ *
+ * Answers 0, or refuses, in this order: 12 if a number of the plan is out of its range, as for twimbor_report_count; 13 if k is
+ * 0 or above the number of reports; 14 if the output has fewer than 16 bytes. All of the output then stays. */
 uint8_t twimbor_write_report(twimbor_plan plan, uint32_t k, uint8_t *output, size_t length);
 
 /* A segment of a table: what was heard of one offset and code. */
@@ -128,19 +144,37 @@ typedef struct {
     size_t events;
 } twimbor_listed;
 
-/* An empty table for one payload type and SSRC; 12, with a table of zeros. */
+/* An empty table for the packets of one payload type and SSRC. Offsets are counted from the timestamp `origin`.
+ *
+ * Refused: 12 if the payload type is above 127, with a table of zeros. */
 twimbor_opened twimbor_open(uint32_t payload_type, uint32_t ssrc, uint32_t origin);
 
-/* Whether a table passes the tests of refusal 16. */
+/* Whether a table passes the tests of refusal 16: at most 128 segments held; these strictly rising by offset, then code; offsets
+ * below 2^31; codes 0 to 15; durations 1 to 65535; volumes 0 to 63; a payload type up to 127. A table that was opened, and one
+ * that receiving returned for it, always does; one that was stored and read back may be tested with this. */
 bool twimbor_is_valid(twimbor_table table);
 
-/* Receives a packet; 16, 1 to 11. Under a refusal the table comes back as it was. */
+/* Receives a packet of `length` bytes, and answers the table with its report taken: the pair of offset and code keeps the largest
+ * duration, the smallest volume number, whether E and whether M was heard. The sequence number plays no part. `is_new` tells
+ * whether the pair was not held before.
+ *
+ * Refused, in this order: 16 if the table fails its tests; 1 to 4 as by twimbor_read; 5 if it is another payload type than the
+ * table's; 6 if it is another SSRC; 7 to 9 as by twimbor_read; 10 if the offset is 2^31 or more; 11 if 128 segments are held
+ * and this pair is none of them. The table then comes back as it was, in every place. */
 twimbor_received twimbor_receive(twimbor_table table, const uint8_t *packet, size_t length);
 
-/* The event at number k, counted from 1 by start, then code; 16 or 13. */
+/* The event at number k, counted from 1 by start, then code. A key held for longer than 65535 units is one event of several
+ * segments.
+ *
+ * Refused, in this order: 16 if the table fails its tests; 13 if k is 0 or above the number of events. The event is then all
+ * zeros. */
 twimbor_event_result twimbor_event_at(twimbor_table table, uint32_t k);
 
-/* Writes the events into the first records of a lent list, and answers how many; 16 or 15. The other records stay. */
+/* Writes all events, by start, then code, into the first records of a lent list of `length` records, and answers how many there
+ * are; the other records stay. A table has at most 128 events.
+ *
+ * Refused, in this order: 16 if the table fails its tests; 15 if the list has fewer records than there are events. The number
+ * of events is then 0, and all records stay. */
 twimbor_listed twimbor_list(twimbor_table table, twimbor_event *list, size_t length);
 
 #endif

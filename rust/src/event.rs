@@ -1,0 +1,17 @@
+/// One event: a key, from its first segment to its last.
+#[repr(C)]
+#[derive(Clone, Copy, Debug, Default, PartialEq, Eq, Hash)]
+pub struct Event {
+    /// The key: digits 0 to 9, then * 10, # 11, A to D 12 to 15.
+    pub code: u8,
+    /// An offset: (timestamp - origin) modulo 2^32.
+    pub start: u32,
+    /// The sum of its segments' durations, in timestamp units.
+    pub length: u32,
+    /// The smallest number of its segments, the loudest.
+    pub volume: u8,
+    /// Its first segment was marked.
+    pub began: bool,
+    /// Its last segment has E.
+    pub ended: bool,
+}

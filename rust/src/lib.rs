@@ -1,0 +1,55 @@
+//! RTP packets that carry one telephone-event report (RFC 4733): a reader and a writer of packets,
+//! a sender's plan for one event, a receiving table, and the list of events that the table holds.
+//!
+//! All of it is done by the static library, whose every function is proved to meet its contract.
+//! This crate gives its calls Rust's names and types.
+//!
+//! One key press, its packets planned and received, is listed as one event:
+//!
+//! ```
+//! use twimbor::{Event, Plan, Table};
+//!
+//! let (payload_type, ssrc, origin) = (101, 0x1122_3344, 5000);
+//! let key = Plan {
+//!     payload_type,
+//!     ssrc,
+//!     sequence: 1,
+//!     start: 6000,
+//!     code: 5,
+//!     volume: 10,
+//!     length: 800,
+//!     period: 400,
+//! };
+//! let mut table = Table::open(payload_type, ssrc, origin)?;
+//! for packet in key.packets()? {
+//!     table.receive(&packet)?;
+//! }
+//! let event = Event { code: 5, start: 1000, length: 800, volume: 10, began: true, ended: true };
+//! assert_eq!(table.events()?, [event]);
+//!
+//! // A report's duration ends at 65,535 units, so a key that is held longer arrives in segments,
+//! // each with a timestamp of its own. It is one event all the same.
+//! let long = Plan { start: 10_000, length: 70_000, period: 30_000, ..key };
+//! for packet in long.packets()? {
+//!     table.receive(&packet)?;
+//! }
+//! assert_eq!(table.count, 3);
+//! assert_eq!(table.events()?, [event, Event { start: 5000, length: 70_000, ..event }]);
+//! # Ok::<(), twimbor::Refusal>(())
+//! ```
+#![deny(unsafe_code)]
+#![warn(missing_docs)]
+
+mod event;
+mod plan;
+mod refusal;
+mod report;
+#[allow(unsafe_code)]
+pub mod sys;
+mod table;
+
+pub use event::Event;
+pub use plan::{Packets, Plan};
+pub use refusal::Refusal;
+pub use report::Report;
+pub use table::{PLACES, Segment, Table, Taken};

@@ -1,0 +1,85 @@
+use std::ops::Range;
+
+use crate::refusal::{Refusal, unless_refused};
+use crate::sys;
+
+/// What a sender plans for one event.
+///
+/// The event is cut into segments of 65,535 units. Each segment is reported once every period, and
+/// three times at its end.
+#[repr(C)]
+#[derive(Clone, Copy, Debug, Default, PartialEq, Eq, Hash)]
+pub struct Plan {
+    /// 0 to 127.
+    pub payload_type: u32,
+    /// The source.
+    pub ssrc: u32,
+    /// The first sequence number.
+    pub sequence: u16,
+    /// The first timestamp.
+    pub start: u32,
+    /// The key, 0 to 15.
+    pub code: u32,
+    /// 0 to 63; a larger number is less loud.
+    pub volume: u32,
+    /// 1 to 1,048,560 timestamp units.
+    pub length: u32,
+    /// 1 to 65,535 timestamp units between reports.
+    pub period: u32,
+}
+
+impl Plan {
+    /// How many reports the plan has. Refusal: 12.
+    pub fn report_count(&self) -> Result<u32, Refusal> {
+        let result = sys::report_count(*self);
+        unless_refused(result.refusal, result.reports)
+    }
+
+    /// Writes report k, counted from 1, at the start of the output; the bytes after it stay.
+    /// Refusals: 12, 13, 14; then all bytes stay.
+    pub fn write_report(&self, k: u32, output: &mut [u8]) -> Result<(), Refusal> {
+        unless_refused(sys::write_report(*self, k, output), ())
+    }
+
+    /// The packets of all reports, in order. Refusal: 12.
+    ///
+    /// ```
+    /// use twimbor::{Plan, Refusal, Report};
+    ///
+    /// let plan = Plan { length: 401, period: 400, ..Plan::default() };
+    /// assert_eq!(plan.packets()?.len(), 4);
+    /// let reports: Vec<_> = plan.packets()?.flat_map(|packet| Report::read(&packet)).collect();
+    /// assert_eq!(reports.iter().map(|r| r.duration).collect::<Vec<_>>(), [400, 401, 401, 401]);
+    /// assert_eq!(reports.iter().map(|r| r.ended).collect::<Vec<_>>(), [false, false, true, true]);
+    /// # Ok::<(), Refusal>(())
+    /// ```
+    pub fn packets(&self) -> Result<Packets, Refusal> {
+        let numbers = 1..self.report_count()? + 1;
+        Ok(Packets { plan: *self, numbers })
+    }
+}
+
+/// The packets of a plan, made by [`Plan::packets`].
+#[derive(Clone, Debug)]
+pub struct Packets {
+    plan: Plan,
+    numbers: Range<u32>,
+}
+
+impl Iterator for Packets {
+    type Item = [u8; 16];
+
+    fn next(&mut self) -> Option<[u8; 16]> {
+        let k = self.numbers.next()?;
+        let mut packet = [0; 16];
+        // Never refused: the plan was in range when its reports were counted, and k is one of them.
+        self.plan.write_report(k, &mut packet).ok()?;
+        Some(packet)
+    }
+
+    fn size_hint(&self) -> (usize, Option<usize>) {
+        self.numbers.size_hint()
+    }
+}
+
+impl ExactSizeIterator for Packets {}

@@ -1,0 +1,117 @@
+use std::error::Error;
+use std::fmt;
+
+/// Why a call refused what it was given. It gives the first reason that holds: [`InvalidTable`]
+/// before all others, then by rising number.
+///
+/// [`InvalidTable`]: Refusal::InvalidTable
+///
+/// ```
+/// use twimbor::{Refusal, Report};
+///
+/// let refusal = Report::read(&[0x80; 11]).unwrap_err();
+/// assert_eq!(refusal, Refusal::TooShort);
+/// assert_eq!(refusal.number(), 1);
+/// assert_eq!(refusal.to_string(), "the packet has fewer than 12 bytes");
+/// ```
+#[repr(u8)]
+#[derive(Clone, Copy, Debug, PartialEq, Eq, Hash)]
+pub enum Refusal {
+    /// The packet has fewer than 12 bytes.
+    TooShort = 1,
+    /// The version is not 2.
+    WrongVersion = 2,
+    /// The CSRC list or the extension runs past the end.
+    HeaderPastEnd = 3,
+    /// P is set, and the pad count is 0 or above the bytes after header, CSRC list and extension.
+    BadPadding = 4,
+    /// Not the table's payload type.
+    OtherPayloadType = 5,
+    /// Not the table's SSRC.
+    OtherSsrc = 6,
+    /// The payload is not 4 bytes.
+    NotOneReport = 7,
+    /// The code is above 15.
+    CodeTooHigh = 8,
+    /// The duration is 0.
+    NoDuration = 9,
+    /// The offset is 2^31 or more.
+    OffsetTooLarge = 10,
+    /// The table holds 128 segments, and this pair of offset and code is none of them.
+    TableFull = 11,
+    /// A number given to open, write or plan is outside its range.
+    OutOfRange = 12,
+    /// The report or event number is 0 or above the count.
+    NoSuchNumber = 13,
+    /// The output has fewer than 16 bytes.
+    OutputTooSmall = 14,
+    /// The lent list has fewer records than there are events.
+    ListTooSmall = 15,
+    /// The table fails a test; see [`Table::is_valid`](crate::Table::is_valid).
+    InvalidTable = 16,
+}
+
+use Refusal::*;
+
+impl Refusal {
+    /// All refusals, by number.
+    pub const ALL: [Refusal; 16] = [
+        TooShort,
+        WrongVersion,
+        HeaderPastEnd,
+        BadPadding,
+        OtherPayloadType,
+        OtherSsrc,
+        NotOneReport,
+        CodeTooHigh,
+        NoDuration,
+        OffsetTooLarge,
+        TableFull,
+        OutOfRange,
+        NoSuchNumber,
+        OutputTooSmall,
+        ListTooSmall,
+        InvalidTable,
+    ];
+
+    /// The refusal's number, 1 to 16.
+    pub fn number(self) -> u8 {
+        self as u8
+    }
+}
+
+impl fmt::Display for Refusal {
+    fn fmt(&self, f: &mut fmt::Formatter) -> fmt::Result {
+        f.write_str(match self {
+            TooShort => "the packet has fewer than 12 bytes",
+            WrongVersion => "the packet's RTP version is not 2",
+            HeaderPastEnd => "the packet's CSRC list or extension runs past its end",
+            BadPadding => "the packet's pad count is 0 or above the bytes after its header",
+            OtherPayloadType => "the packet's payload type is not the table's",
+            OtherSsrc => "the packet's SSRC is not the table's",
+            NotOneReport => "the packet's payload is not 4 bytes, one report",
+            CodeTooHigh => "the report's event code is above 15",
+            NoDuration => "the report's duration is 0",
+            OffsetTooLarge => "the report's timestamp is 2^31 or more after the table's origin",
+            TableFull => "the table holds 128 segments, and the report's is none of them",
+            OutOfRange => "a number given is outside its range",
+            NoSuchNumber => "the report or event number is 0 or above the count",
+            OutputTooSmall => "the output has fewer than 16 bytes",
+            ListTooSmall => "the lent list has fewer records than there are events",
+            InvalidTable => {
+                "the table has more than 128 segments, segments out of order, or a number \
+                 outside its range"
+            }
+        })
+    }
+}
+
+impl Error for Refusal {}
+
+/// The value of a call whose answer has this refusal number, 0 for none.
+pub(crate) fn unless_refused<T>(number: u8, value: T) -> Result<T, Refusal> {
+    match number {
+        0 => Ok(value),
+        _ => Err(Refusal::ALL[usize::from(number) - 1]),
+    }
+}

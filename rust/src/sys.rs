@@ -1,0 +1,131 @@
+//! The calls of `include/twimbor.h`, safe to call, with the answers as C gets them. The crate's own
+//! types say the same with `Result` and [`Refusal`](crate::Refusal).
+//!
+//! Each call answers the refusal's number, 0 if nothing is refused. Under a refusal no lent byte or
+//! record changes, and the values answered are zeros.
+
+use crate::{Event, Plan, Report, Table};
+
+/// What [`read`] answers.
+#[repr(C)]
+#[derive(Clone, Copy, Debug, PartialEq, Eq)]
+pub struct ReadResult {
+    /// The report that the packet carries.
+    pub report: Report,
+    /// The refusal's number, or 0.
+    pub refusal: u8,
+}
+
+/// What [`report_count`] answers.
+#[repr(C)]
+#[derive(Clone, Copy, Debug, PartialEq, Eq)]
+pub struct CountResult {
+    /// How many reports the plan has.
+    pub reports: u32,
+    /// The refusal's number, or 0.
+    pub refusal: u8,
+}
+
+/// What [`open`] answers.
+#[repr(C)]
+#[derive(Clone, Debug, PartialEq, Eq)]
+pub struct Opened {
+    /// The empty table.
+    pub table: Table,
+    /// The refusal's number, or 0.
+    pub refusal: u8,
+}
+
+/// What [`receive`] answers.
+#[repr(C)]
+#[derive(Clone, Debug, PartialEq, Eq)]
+pub struct Received {
+    /// The table afterwards; under a refusal, as it was.
+    pub table: Table,
+    /// The refusal's number, or 0.
+    pub refusal: u8,
+    /// The packet was taken, and its segment is new.
+    pub is_new: bool,
+}
+
+/// What [`event_at`] answers.
+#[repr(C)]
+#[derive(Clone, Copy, Debug, PartialEq, Eq)]
+pub struct EventResult {
+    /// The event.
+    pub event: Event,
+    /// The refusal's number, or 0.
+    pub refusal: u8,
+}
+
+/// What [`list`] answers.
+#[repr(C)]
+#[derive(Clone, Copy, Debug, PartialEq, Eq)]
+pub struct Listed {
+    /// The refusal's number, or 0.
+    pub refusal: u8,
+    /// How many records were written.
+    pub events: usize,
+}
+
+// The compiler cannot check these lines against the library. They follow include/twimbor.h, and the
+// tests compare the structs' places with the header's and the calls' answers with document 01.
+unsafe extern "C" {
+    fn twimbor_read(packet: *const u8, length: usize) -> ReadResult;
+    fn twimbor_write(report: Report, output: *mut u8, length: usize) -> u8;
+    safe fn twimbor_report_count(plan: Plan) -> CountResult;
+    fn twimbor_write_report(plan: Plan, k: u32, output: *mut u8, length: usize) -> u8;
+    safe fn twimbor_open(payload_type: u32, ssrc: u32, origin: u32) -> Opened;
+    safe fn twimbor_is_valid(table: Table) -> bool;
+    fn twimbor_receive(table: Table, packet: *const u8, length: usize) -> Received;
+    safe fn twimbor_event_at(table: Table, k: u32) -> EventResult;
+    fn twimbor_list(table: Table, list: *mut Event, length: usize) -> Listed;
+}
+
+// A slice is never null, not even an empty one, points to as many elements as it says, and a lent
+// one is written by nobody else: that is all that the header asks of a pointer with its length.
+
+/// Reads a packet.
+pub fn read(packet: &[u8]) -> ReadResult {
+    unsafe { twimbor_read(packet.as_ptr(), packet.len()) }
+}
+
+/// Writes a report's 16 bytes at the start of the output, and answers the refusal's number.
+pub fn write(report: Report, output: &mut [u8]) -> u8 {
+    unsafe { twimbor_write(report, output.as_mut_ptr(), output.len()) }
+}
+
+/// How many reports a plan has.
+pub fn report_count(plan: Plan) -> CountResult {
+    twimbor_report_count(plan)
+}
+
+/// Writes report k of a plan at the start of the output, and answers the refusal's number.
+pub fn write_report(plan: Plan, k: u32, output: &mut [u8]) -> u8 {
+    unsafe { twimbor_write_report(plan, k, output.as_mut_ptr(), output.len()) }
+}
+
+/// An empty table.
+pub fn open(payload_type: u32, ssrc: u32, origin: u32) -> Opened {
+    twimbor_open(payload_type, ssrc, origin)
+}
+
+/// Whether a table passes the tests of refusal 16.
+pub fn is_valid(table: &Table) -> bool {
+    twimbor_is_valid(table.clone())
+}
+
+/// Receives a packet.
+pub fn receive(table: &Table, packet: &[u8]) -> Received {
+    unsafe { twimbor_receive(table.clone(), packet.as_ptr(), packet.len()) }
+}
+
+/// The event at number k.
+pub fn event_at(table: &Table, k: u32) -> EventResult {
+    twimbor_event_at(table.clone(), k)
+}
+
+/// Writes the events into the first records of a lent list.
+pub fn list(table: &Table, list: &mut [Event]) -> Listed {
+    unsafe { twimbor_list(table.clone(), list.as_mut_ptr(), list.len()) }
+}

@@ -1,0 +1,62 @@
+//! The event at a number, and the list into lent records.
+
+use crate::make::tables::{any_event, broken_table, table};
+use crate::paper::events as paper;
+use crate::random::Random;
+use crate::tally::Tally;
+use twimbor::sys::{self, EventResult, Listed};
+use twimbor::{Event, Refusal, Table};
+
+pub const INPUTS: usize = TABLES * 8;
+const TABLES: usize = 15_000;
+
+type Events = Result<Vec<Event>, u8>;
+
+fn event_at(table: &Table, events: &Events, k: u32) -> Result<Event, u8> {
+    let answer = paper::event_at(events, k);
+    let refusal = answer.err().unwrap_or(0);
+    let result = EventResult { event: answer.unwrap_or_default(), refusal };
+    assert_eq!(sys::event_at(table, k), result, "{k} of {table:?}");
+    assert_eq!(table.event(k).map_err(Refusal::number), answer, "{k} of {table:?}");
+    answer
+}
+
+/// Lends the first `length` records of a longer list, so that a record written too far is seen.
+pub fn list(
+    random: &Random,
+    (table, events): (&Table, &Events),
+    length: usize,
+) -> Result<usize, u8> {
+    let before: Vec<Event> = (0..length + 2).map(|_| any_event(random)).collect();
+    let mut expected = before.clone();
+    let answer = paper::list(events, &mut expected[..length]);
+    let listed = Listed { refusal: answer.err().unwrap_or(0), events: answer.unwrap_or(0) };
+    let mut lent = before.clone();
+    assert_eq!(sys::list(table, &mut lent[..length]), listed, "{length} for {table:?}");
+    assert_eq!(lent, expected, "{length} for {table:?}");
+    let mut lent = before.clone();
+    let said = table.list_into(&mut lent[..length]).map_err(Refusal::number);
+    assert_eq!((said, lent), (answer, expected), "{length} for {table:?}");
+    answer
+}
+
+#[test]
+fn events_are_listed_as_on_paper() {
+    let random = &Random::new(8);
+    let (mut numbers, mut lists) = (Tally::default(), Tally::default());
+    for i in 0..TABLES {
+        let table = if i % 4 == 0 { broken_table(random) } else { table(random) };
+        let events = paper::events(&table);
+        assert_eq!(table.events().map_err(Refusal::number), events, "{table:?}");
+        let n = events.as_ref().map_or(0, Vec::len);
+        for length in [n.saturating_sub(1), n, n + 1, random.index(160)] {
+            lists.add(list(random, (&table, &events), length));
+        }
+        let n = n as u32;
+        for k in [random.pick(&[0, u32::MAX, random.u32()]), 1 + random.below(n.max(1)), n, n + 1] {
+            numbers.add(event_at(&table, &events, k));
+        }
+    }
+    numbers.finish("event at a number", &[13, 16]);
+    lists.finish("list", &[15, 16]);
+}

@@ -1,0 +1,18 @@
+//! The library compared with document 01, written again from its text alone (`paper`), on random
+//! inputs: each answer, table field, place, and lent byte and record, also under a refusal.
+
+mod lists;
+mod make;
+mod order;
+mod packets;
+mod paper;
+mod plans;
+mod random;
+mod runs;
+mod tables;
+mod tally;
+
+const _: () = assert!(
+    packets::INPUTS + plans::INPUTS + tables::INPUTS + lists::INPUTS >= 1_000_000,
+    "at least a million inputs are compared"
+);

@@ -1,0 +1,91 @@
+//! Tables, valid and not, and the records that lists are lent with.
+
+use crate::random::Random;
+use std::collections::BTreeMap;
+use twimbor::{Event, Segment, Table};
+
+/// A segment with any numbers, also those that no valid table holds.
+pub fn any_segment(random: &Random) -> Segment {
+    Segment {
+        offset: random.u32(),
+        code: random.u8(),
+        duration: random.u16(),
+        volume: random.u8(),
+        ended: random.bool(),
+        marked: random.bool(),
+    }
+}
+
+pub fn any_event(random: &Random) -> Event {
+    Event {
+        code: random.u8(),
+        start: random.u32(),
+        length: random.u32(),
+        volume: random.u8(),
+        began: random.bool(),
+        ended: random.bool(),
+    }
+}
+
+/// A valid table whose segments often continue one another, with anything in the places above.
+pub fn table(random: &Random) -> Table {
+    let small = random.index(6);
+    let wanted = random.pick(&[small, small, random.index(129), 127, 128]);
+    let (codes, marks, ends) = (1 + random.below(16), 1 + random.below(9), 2 + random.below(9));
+    let base = random.pick(&[0, 0x7FF0_0000, random.u32() >> 1]);
+    let (mut held, mut last) = (BTreeMap::new(), Segment::default());
+    while held.len() < wanted {
+        let grid = base.wrapping_add(65_535 * random.below(24));
+        let after_last = last.offset + u32::from(last.duration);
+        let any = random.pick(&[grid + 1, random.u32(), 0x7FFF_FFFF]);
+        last = Segment {
+            offset: random.pick(&[grid, grid, grid, after_last, any]) % (1 << 31),
+            code: random.pick(&[last.code, random.below(codes) as u8]),
+            duration: random.pick(&[65_535, 65_535, 65_535, 65_534, random.u16().max(1)]),
+            volume: random.below(64) as u8,
+            ended: random.one_in(ends),
+            marked: random.one_in(marks),
+        };
+        held.insert((last.offset, last.code), last);
+    }
+    let mut segments = [(); 128].map(|_| any_segment(random));
+    for (place, segment) in segments.iter_mut().zip(held.values()) {
+        *place = *segment;
+    }
+    Table {
+        payload_type: random.below(128) as u8,
+        ssrc: random.u32(),
+        origin: random.pick(&[0, 0xFFFF_FFF0, random.u32()]),
+        count: wanted,
+        segments,
+    }
+}
+
+/// An empty table: opened, or any other that is valid.
+pub fn empty_table(random: &Random) -> Table {
+    let any = table(random);
+    if random.bool() {
+        return Table { count: 0, ..any };
+    }
+    Table::open(u32::from(any.payload_type), any.ssrc, any.origin).unwrap()
+}
+
+/// A table with one test broken, or with any segment in one place. What is changed may be in a
+/// place that holds none; then the table stays valid.
+pub fn broken_table(random: &Random) -> Table {
+    let mut table = table(random);
+    let last = table.count.saturating_sub(1);
+    let some = random.index(last + 1);
+    match random.below(9) {
+        0 => table.count = random.pick(&[129, 130, 255, 256, 1 << 31, 1 << 32, usize::MAX]),
+        1 => table.payload_type = random.pick(&[128, 255]),
+        2 => table.segments[some].code = random.pick(&[16, 255]),
+        3 => table.segments[some].duration = 0,
+        4 => table.segments[some].volume = random.pick(&[64, 255]),
+        5 => table.segments[some] = any_segment(random),
+        6 => table.segments[last].offset = random.pick(&[1 << 31, u32::MAX]),
+        7 => table.segments[last] = table.segments[some],
+        _ => table.segments.swap(last, some),
+    }
+    table
+}

@@ -1,0 +1,86 @@
+//! read and write.
+
+use crate::make;
+use crate::paper::packet as paper;
+use crate::random::Random;
+use crate::tally::Tally;
+use twimbor::sys::{self, ReadResult};
+use twimbor::{Refusal, Report};
+
+pub const INPUTS: usize = 400_000 + 150_000;
+
+fn read(packet: &[u8]) -> Result<Report, u8> {
+    let answer = paper::read(packet);
+    let report = answer.unwrap_or_default();
+    let refusal = answer.err().unwrap_or(0);
+    assert_eq!(sys::read(packet), ReadResult { report, refusal }, "{packet:02x?}");
+    assert_eq!(Report::read(packet).map_err(Refusal::number), answer, "{packet:02x?}");
+    answer
+}
+
+/// Writes into the first `length` bytes of a larger buffer, so that a byte written too far is seen.
+fn write(random: &Random, report: &Report, length: usize) -> Result<(), u8> {
+    let before = random.bytes(length + 8);
+    let mut expected = before.clone();
+    let answer = paper::write(report, &mut expected[..length]);
+    let mut output = before.clone();
+    let refusal = sys::write(*report, &mut output[..length]);
+    assert_eq!((refusal, &output), (answer.err().unwrap_or(0), &expected), "{report:?}");
+    let mut output = before.clone();
+    let said = report.write(&mut output[..length]);
+    assert_eq!((said.map_err(Refusal::number), &output), (answer, &expected), "{report:?}");
+    answer
+}
+
+#[test]
+fn packets_are_read_as_on_paper() {
+    let random = &Random::new(1);
+    let mut tally = Tally::default();
+    for _ in 0..400_000 {
+        let report = make::report(random);
+        let packet = make::packets::packet(random, &report);
+        let answer = read(&packet);
+        tally.add(answer);
+        // There and back: a readable packet with P, X, CSRC count and R all 0.
+        if let Ok(report) = answer
+            && packet[0] == 0x80
+            && packet[13] & 0x40 == 0
+        {
+            let mut output = [0; 16];
+            assert_eq!(report.write(&mut output), Ok(()));
+            assert_eq!(output, packet[..]);
+        }
+    }
+    tally.finish("read", &[1, 2, 3, 4, 7, 8, 9]);
+}
+
+#[test]
+fn reports_are_written_as_on_paper() {
+    let random = &Random::new(2);
+    let mut tally = Tally::default();
+    for _ in 0..150_000 {
+        let report = make::report(random);
+        let length = random.pick(&[0, 15, 16, 16, 17, 17, random.index(40)]);
+        let answer = write(random, &report, length);
+        tally.add(answer);
+        if answer.is_ok() {
+            let mut output = [0; 16];
+            assert_eq!(report.write(&mut output), Ok(()));
+            assert_eq!(Report::read(&output), Ok(report));
+        }
+    }
+    tally.finish("write", &[12, 14]);
+}
+
+/// The longest extension has 65,535 words: random packets do not get there.
+#[test]
+fn long_packets_are_read_as_on_paper() {
+    let mut packet = vec![0x90; 12];
+    packet.extend([0, 0, 0xFF, 0xFF]);
+    packet.extend(vec![7; 4 * 65_535]);
+    packet.extend([5, 0x8A, 0, 1]);
+    assert!(read(&packet).is_ok());
+    assert_eq!(read(&packet[..packet.len() - 1]), Err(7));
+    assert_eq!(read(&packet[..packet.len() - 4]), Err(7));
+    assert_eq!(read(&packet[..packet.len() - 5]), Err(3));
+}

@@ -1,0 +1,7 @@
+//! Document 01 as a program, the plainest that says it. It shares the library's structs and nothing
+//! else. Every answer is a `Result` with 01's number of the refusal.
+
+pub mod events;
+pub mod packet;
+pub mod plan;
+pub mod table;

@@ -1,0 +1,53 @@
+//! "The sender's plan for one event".
+
+use super::packet;
+use twimbor::{Plan, Report};
+
+/// All reports of a plan, in order.
+pub fn reports(plan: &Plan) -> Result<Vec<Report>, u8> {
+    if plan.payload_type > 127
+        || plan.code > 15
+        || plan.volume > 63
+        || !(1..=1_048_560).contains(&plan.length)
+        || !(1..=65_535).contains(&plan.period)
+    {
+        return Err(12);
+    }
+    let mut reports = Vec::new();
+    let mut before = 0;
+    while before < plan.length {
+        let units = (plan.length - before).min(65_535);
+        let is_last = before + units == plan.length;
+        let multiples = (1..).map(|times| times * plan.period);
+        let interim = multiples.take_while(|&duration| duration < units).map(|d| (d, false));
+        let at_end = [(units, false), (units, is_last), (units, is_last)];
+        for (duration, ended) in interim.chain(at_end) {
+            reports.push(Report {
+                marker: reports.is_empty(),
+                payload_type: plan.payload_type,
+                sequence: ((u64::from(plan.sequence) + reports.len() as u64) % 65_536) as u16,
+                timestamp: ((u64::from(plan.start) + u64::from(before)) % (1 << 32)) as u32,
+                ssrc: plan.ssrc,
+                code: plan.code,
+                ended,
+                volume: plan.volume,
+                duration,
+            });
+        }
+        before += units;
+    }
+    Ok(reports)
+}
+
+/// Writes report k of a plan that has these reports.
+pub fn write_report(
+    reports: &Result<Vec<Report>, u8>,
+    k: u32,
+    output: &mut [u8],
+) -> Result<(), u8> {
+    let reports = reports.as_ref().map_err(|&number| number)?;
+    if k == 0 || k as usize > reports.len() {
+        return Err(13);
+    }
+    packet::write(&reports[k as usize - 1], output)
+}

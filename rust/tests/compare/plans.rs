@@ -1,0 +1,81 @@
+//! The plan's two calls.
+
+use crate::make;
+use crate::paper::plan as paper;
+use crate::random::Random;
+use crate::tally::Tally;
+use twimbor::sys::{self, CountResult};
+use twimbor::{Plan, Refusal, Report};
+
+pub const INPUTS: usize = PLANS * (1 + REPORTS);
+const PLANS: usize = 15_000;
+const REPORTS: usize = 8;
+
+type Reports = Result<Vec<Report>, u8>;
+
+fn report_count(plan: &Plan, reports: &Reports) -> Result<u32, u8> {
+    let answer = reports.as_ref().map(|reports| reports.len() as u32).map_err(|&number| number);
+    let result = CountResult { reports: answer.unwrap_or(0), refusal: answer.err().unwrap_or(0) };
+    assert_eq!(sys::report_count(*plan), result, "{plan:?}");
+    assert_eq!(plan.report_count().map_err(Refusal::number), answer, "{plan:?}");
+    answer
+}
+
+fn write_report(
+    random: &Random,
+    (plan, reports): (&Plan, &Reports),
+    k: u32,
+    length: usize,
+) -> Result<(), u8> {
+    let before = random.bytes(length + 8);
+    let mut expected = before.clone();
+    let answer = paper::write_report(reports, k, &mut expected[..length]);
+    let mut output = before.clone();
+    let refusal = sys::write_report(*plan, k, &mut output[..length]);
+    assert_eq!((refusal, &output), (answer.err().unwrap_or(0), &expected), "{k} of {plan:?}");
+    let mut output = before.clone();
+    let said = plan.write_report(k, &mut output[..length]);
+    assert_eq!((said.map_err(Refusal::number), &output), (answer, &expected), "{k} of {plan:?}");
+    answer
+}
+
+#[test]
+fn plans_are_as_on_paper() {
+    let random = &Random::new(3);
+    let (mut counts, mut writes) = (Tally::default(), Tally::default());
+    for _ in 0..PLANS {
+        let plan = make::plan(random);
+        let reports = paper::reports(&plan);
+        let answer = report_count(&plan, &reports);
+        counts.add(answer);
+        let count = answer.unwrap_or(0);
+        for _ in 0..REPORTS {
+            let any = 1 + random.below(count.max(1));
+            let edges = [0, 1, count.wrapping_sub(1), count, count + 1, random.u32(), u32::MAX];
+            let k = random.pick(&[any, random.pick(&edges)]);
+            let length = random.pick(&[0, 15, 16, 16, 16, 17, 17, random.index(40)]);
+            writes.add(write_report(random, (&plan, &reports), k, length));
+        }
+    }
+    counts.finish("report count", &[12]);
+    writes.finish("write report", &[12, 13, 14]);
+}
+
+/// Every report of some plans, each shape of one: one segment, several, a rest of 1, period 1.
+#[test]
+fn whole_plans_are_as_on_paper() {
+    let random = &Random::new(4);
+    let lengths = [1, 2, 399, 400, 401, 65_534, 65_535, 65_536, 70_000, 131_070, 1_048_560];
+    for length in lengths {
+        for period in [1, 160, 400, 2_400, 65_534, 65_535] {
+            let plan = Plan { payload_type: 101, length, period, ..make::plan(random) };
+            let plan = Plan { code: plan.code % 16, volume: plan.volume % 64, ..plan };
+            let reports = paper::reports(&plan).unwrap();
+            let packets = plan.packets().unwrap();
+            assert_eq!(packets.len(), reports.len());
+            for (packet, report) in packets.zip(reports) {
+                assert_eq!(Report::read(&packet), Ok(report));
+            }
+        }
+    }
+}

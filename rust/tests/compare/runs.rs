@@ -1,0 +1,120 @@
+//! Whole runs: events sent by plans to one table, with losses, repeats, any order, and strangers
+//! between. As long as what is needed arrives, the list is exactly the events sent.
+
+use crate::lists::list;
+use crate::make::packets::{damage, packet_for};
+use crate::make::tables::empty_table;
+use crate::paper::table as paper;
+use crate::random::Random;
+use crate::tables::receive;
+use twimbor::{Event, Plan, Report, Table};
+
+const RUNS: usize = 4_000;
+
+/// Events that do not overlap, within 01's sizes for one table; often one right after another.
+fn events(random: &Random) -> Vec<Event> {
+    let mut events = Vec::new();
+    let mut room = random.pick(&[4, 30, 128]);
+    let mut end = random.pick(&[0, 0x7FFF_0000, random.u32() >> 1, random.u32() >> 9]);
+    let codes = 1 + random.below(3);
+    loop {
+        let start = end + random.pick(&[0, 0, 1, 65_535, random.below(100_000)]);
+        let full = 65_535 * random.below(random.pick(&[2, 2, 4, 16]));
+        let length = (full + random.pick(&[0, 1, 65_535, random.below(65_535)])).max(1);
+        if length.div_ceil(65_535) > room || start + length >= 1 << 31 {
+            return events;
+        }
+        room -= length.div_ceil(65_535);
+        end = start + length;
+        let (code, volume) = (random.below(codes) as u8, random.below(64) as u8);
+        events.push(Event { code, start, length, volume, began: true, ended: true });
+    }
+}
+
+/// The packets of an event that arrive: those needed, and some of the others, some several times.
+fn arriving(random: &Random, table: &Table, event: &Event) -> Vec<Vec<u8>> {
+    let often = (event.length / (1 + random.below(30))).clamp(1, 65_535);
+    let plan = Plan {
+        payload_type: u32::from(table.payload_type),
+        ssrc: table.ssrc,
+        sequence: random.u16(),
+        start: table.origin.wrapping_add(event.start),
+        code: u32::from(event.code),
+        volume: u32::from(event.volume),
+        length: event.length,
+        period: random.pick(&[65_535, 65_534, 30_000, often]),
+    };
+    let packets: Vec<_> = plan.packets().unwrap().map(Vec::from).collect();
+    let reports: Vec<_> = packets.iter().map(|packet| Report::read(packet).unwrap()).collect();
+    // Which reports meet each need: the first; a full one of each segment before the last; an end.
+    let all = 0..reports.len();
+    let mut needs = vec![vec![0], all.clone().filter(|&i| reports[i].ended).collect()];
+    for before in (0..(event.length - 1) / 65_535).map(|segment| segment * 65_535) {
+        let timestamp = plan.start.wrapping_add(before);
+        let full = |i: &usize| reports[*i].timestamp == timestamp && reports[*i].duration == 65_535;
+        needs.push(all.clone().filter(full).collect());
+    }
+    let mut numbers: Vec<usize> = needs.iter().map(|need| random.pick(need)).collect();
+    let kept = random.pick(&[0, 20, 100]);
+    numbers.extend(all.filter(|_| random.below(100) < kept));
+    numbers.extend(numbers.clone().into_iter().filter(|_| random.one_in(5)));
+    numbers.sort();
+    numbers.into_iter().map(|i| packets[i].clone()).collect()
+}
+
+/// Packets in another order: shuffled, moved a little, or as they are.
+fn reorder(random: &Random, packets: &mut [Vec<u8>]) {
+    match random.below(3) {
+        0 => random.shuffle(packets),
+        1 => packets.chunks_mut(5).for_each(|chunk| random.shuffle(chunk)),
+        _ => {}
+    }
+}
+
+/// Receives bytes that the table refuses, if such bytes are found at once.
+fn stranger(random: &Random, table: &mut Table, sent: &[Vec<u8>]) -> usize {
+    let mut packet = packet_for(random, table);
+    if random.one_in(3) && !sent.is_empty() {
+        packet = random.pick(sent);
+        damage(random, &mut packet);
+    }
+    if paper::receive(&mut table.clone(), &packet).is_ok() {
+        return 0;
+    }
+    assert!(receive(table, &packet).is_err());
+    1
+}
+
+#[test]
+fn the_list_is_what_was_sent() {
+    let random = &Random::new(9);
+    let (mut sent_events, mut taken, mut strangers, mut full) = (0, 0, 0, 0);
+    for _ in 0..RUNS {
+        let mut table = empty_table(random);
+        let events = events(random);
+        let arrive = |event| arriving(random, &table, event);
+        let mut packets: Vec<_> = events.iter().flat_map(arrive).collect();
+        reorder(random, &mut packets);
+        for packet in &packets {
+            assert!(receive(&mut table, packet).is_ok());
+            if random.one_in(2) {
+                strangers += stranger(random, &mut table, &packets);
+            }
+        }
+        strangers += stranger(random, &mut table, &packets);
+        sent_events += events.len();
+        let room = events.len() + random.index(3);
+        assert_eq!(table.events().as_ref(), Ok(&events), "{table:?}");
+        for (k, event) in (1..).zip(&events) {
+            assert_eq!(table.event(k), Ok(*event));
+        }
+        assert!(list(random, (&table, &Ok(events)), room).is_ok());
+        taken += packets.len();
+        full += usize::from(table.count == 128);
+    }
+    println!(
+        "runs: {RUNS}, events sent and listed: {sent_events}, packets taken: {taken}, \
+         strangers refused: {strangers}, tables full: {full}"
+    );
+    assert!(full > 0);
+}

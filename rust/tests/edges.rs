@@ -1,0 +1,110 @@
+//! The rows of document 01, "Both sides of each edge", and the words of the refusals.
+
+use std::collections::HashSet;
+use twimbor::{Event, Plan, Refusal, Report, Segment, Table, Taken};
+
+const P7: Plan = Plan {
+    payload_type: 101,
+    ssrc: 0x1122_3344,
+    sequence: 65_535,
+    start: 0xFFFF_FFF0,
+    code: 5,
+    volume: 10,
+    length: 400,
+    period: 400,
+};
+
+/// The events of a table that holds these two segments.
+fn events(first: Segment, second: Segment) -> Vec<Event> {
+    let mut table = Table::open(101, 1, 0).unwrap();
+    table.count = 2;
+    table.segments[..2].copy_from_slice(&[first, second]);
+    table.events().unwrap()
+}
+
+#[test]
+fn p1_to_p6_count_reports() {
+    for (length, period, reports) in [
+        (1, 65_535, 3),
+        (400, 400, 3),
+        (401, 400, 4),
+        (65_535, 65_535, 3),
+        (65_536, 65_535, 6),
+        (70_000, 2_400, 34),
+    ] {
+        assert_eq!(Plan { length, period, ..P7 }.report_count(), Ok(reports));
+    }
+}
+
+#[test]
+fn p7_and_p8_give_these_bytes() {
+    let packets: Vec<_> = P7.packets().unwrap().map(|packet| format!("{packet:02X?}")).collect();
+    assert_eq!(
+        packets,
+        [
+            "[80, E5, FF, FF, FF, FF, FF, F0, 11, 22, 33, 44, 05, 0A, 01, 90]",
+            "[80, 65, 00, 00, FF, FF, FF, F0, 11, 22, 33, 44, 05, 8A, 01, 90]",
+            "[80, 65, 00, 01, FF, FF, FF, F0, 11, 22, 33, 44, 05, 8A, 01, 90]",
+        ]
+    );
+}
+
+#[test]
+fn p9_to_p12_list_one_event_or_two() {
+    let zeros = Segment { code: 5, ..Segment::default() };
+    let first = Segment { duration: 65_535, marked: true, ..zeros };
+    let second = Segment { offset: 65_535, duration: 1, ended: true, ..zeros };
+    let event = Event { code: 5, length: 65_536, began: true, ended: true, ..Event::default() };
+    assert_eq!(events(first, second), [event]);
+
+    let one = Event { length: 65_535, ..event };
+    let two = Event { start: 65_535, length: 1, began: false, ..event };
+    assert_eq!(events(Segment { ended: true, ..first }, second), [one, two]);
+    let shorter = Segment { duration: 65_534, ..first };
+    assert_eq!(events(shorter, second), [Event { length: 65_534, ended: false, ..event }, two]);
+    let marked = Segment { marked: true, ..second };
+    let begun = Event { began: true, ..two };
+    assert_eq!(events(first, marked), [Event { ended: false, ..one }, begun]);
+}
+
+#[test]
+fn offsets_end_at_two_to_the_31() {
+    let origin = 0xFFFF_FFF0;
+    let mut table = Table::open(P7.payload_type, P7.ssrc, origin).unwrap();
+    let mut packet = [0; 16];
+    let last = Plan { start: origin.wrapping_add((1 << 31) - 1), ..P7 };
+    last.write_report(1, &mut packet).unwrap();
+    assert_eq!(table.receive(&packet), Ok(Taken::New));
+    let after = Plan { start: origin.wrapping_add(1 << 31), ..P7 };
+    after.write_report(1, &mut packet).unwrap();
+    assert_eq!(table.receive(&packet), Err(Refusal::OffsetTooLarge));
+}
+
+#[test]
+fn a_full_table_takes_what_it_knows() {
+    let mut table = Table::open(P7.payload_type, P7.ssrc, 0).unwrap();
+    let mut packet = [0; 16];
+    for start in 0..129 {
+        Plan { start, ..P7 }.write_report(1, &mut packet).unwrap();
+        let expected = if start < 128 { Ok(Taken::New) } else { Err(Refusal::TableFull) };
+        assert_eq!(table.receive(&packet), expected);
+    }
+    Plan { start: 77, ..P7 }.write_report(2, &mut packet).unwrap();
+    assert_eq!(table.receive(&packet), Ok(Taken::Known));
+    assert_eq!(table.count, 128);
+}
+
+#[test]
+fn volume_ends_at_63() {
+    let report = Report { volume: 63, duration: 1, ..Report::default() };
+    assert_eq!(report.write(&mut [0; 16]), Ok(()));
+    let too_large = Report { volume: 64, ..report };
+    assert_eq!(too_large.write(&mut [0; 16]), Err(Refusal::OutOfRange));
+}
+
+#[test]
+fn each_refusal_has_its_number_and_words() {
+    assert!(Refusal::ALL.map(Refusal::number).into_iter().eq(1..=16));
+    let words = Refusal::ALL.map(|refusal| refusal.to_string());
+    assert_eq!(HashSet::from(words).len(), 16);
+}
