@@ -30,11 +30,6 @@ followedBy n (b ∷ bs) = followedBy (n * 10 + (b - 48)) bs
 abbrev pub value : List ℕ → ℕ
 value = followedBy 0
 
--- the last k decimal digits of n, the most significant first
-unfoldable pub decimals : ℕ → ℕ → List ℕ
-decimals zero n = []
-decimals (suc k) n = decimals k (n / 10) ++ ((48 + n % 10) ∷ [])
-
 -- so many digits, the first of them given: at least one, and a 0 first only if it is alone
 abbrev pub isDecimal : ℕ → ℕ → Bool
 isDecimal first digits = not (eqb digits 0) && (leb digits 1 || not (eqb first 48))
@@ -87,8 +82,12 @@ sessionOf bs =
     after (lineAt originName bs third) (λ origin end.
     cond (eqb end (length bs)) (Given type source origin) Bad)))
 
--- THE TEXT AS IT IS WRITTEN
--- What `sessionOf` reads, said the other way round (proofs/Written.antt shows that it is the same).
+-- THE TEXT AS IT IS WRITTEN: what `sessionOf` reads, said the other way round (proofs/Written.antt shows that it is the same)
+
+-- the last k decimal digits of n, the most significant first
+unfoldable pub decimals : ℕ → ℕ → List ℕ
+decimals zero n = []
+decimals (suc k) n = decimals k (n / 10) ++ ((48 + n % 10) ∷ [])
 
 -- n in its fewest decimal digits: one, and so many more
 pub record Decimal (n : ℕ) (digits : List ℕ) : Type 0 where
