@@ -43,10 +43,8 @@ int main(void)
         return 0;
     }
     static twimbor_table t;
-    t.payload_type = (uint8_t)type;
-    t.ssrc = ssrc;
-    t.origin = origin;
-    if (!plain_is_valid(t)) return 1;
+    t.head = (twimbor_head){(uint8_t)type, ssrc, origin, 0};
+    if (!plain_is_valid(&t)) return 1;
     uint64_t taken = 0, refused = 0;
     size_t kept = 0;
     ssize_t got;
@@ -62,7 +60,7 @@ int main(void)
         kept = n - at;
     }
     static twimbor_event out[128];
-    size_t events = plain_list(t, out, 128).events;
+    size_t events = plain_list(&t, out, 128).events;
     for (size_t k = 0; k < events; k++)
         printf("start=%u\nkey=%u\nunits=%u\nvolume=%u\nbegan=%d\nended=%d\n", out[k].start, out[k].code, out[k].length, out[k].volume, out[k].began, out[k].ended);
     printf("events=%zu\ntaken=%llu\nrefused=%llu\ncut=%d\n", events, (unsigned long long)taken, (unsigned long long)refused, kept > 0);

@@ -1,12 +1,16 @@
-/* Receiving and listing: ours against plain C with the table by value and the same tests, in turns, the best of many rounds. */
+/* Receiving and listing: ours against plain C, both in place and with the same tests, in turns, the best of many rounds. */
 #include "../tests/plain.h"
 #include <stdio.h>
 #include <stdlib.h>
+#include <string.h>
 #include <time.h>
 
-twimbor_table bench_receive(twimbor_table t, const uint8_t *packets, size_t length, uint32_t passes);
+/* The packets of a buffer, 16 bytes each, so many times over, in a Rattle loop: by the library's call, and by its step for a table
+ * that is known to pass the tests. Each answers how many segments are held at the end. */
+typedef uint64_t loop(twimbor_head head, uint64_t *keys, uint32_t *heard, const uint8_t *packets, size_t length, uint32_t passes);
+loop bench_receive, bench_receive_valid;
 
-enum { PACKETS = 256, ROUNDS = 25 };
+enum { PACKETS = 256, ROUNDS = 400 };
 static uint8_t packets[PACKETS * 16];
 
 static double now(void)
@@ -24,61 +28,83 @@ static void least(double *best, double t)
 /* Known segments in a fixed cycle, as many as are held. */
 static twimbor_table filled(int held)
 {
-    twimbor_table t = twimbor_open(101, 7, 1000).table;
+    twimbor_table t;
+    if (twimbor_open(&t, 101, 7, 1000) != 0) exit(1);
     for (int i = 0; i < PACKETS; i++) {
         twimbor_report r = {i % 7 == 0, 101, (uint16_t)i, 1000u + 700u * (i % held), 7, 5, i % 3 == 0, i % 64, 1 + i};
-        if (twimbor_write(r, packets + 16 * i, 16) != 0) exit(1);
-        t = twimbor_receive(t, packets + 16 * i, 16).table;
+        if (twimbor_write(r, packets + 16 * i, 16) != 0 || twimbor_receive(&t, packets + 16 * i, 16).refusal != 0) exit(1);
     }
     return t;
 }
 
-static void receiving(int held)
+enum { FROM_C, LOOP, LOOP_VALID, PLAIN, PLAIN_VALID, WAYS, TURNS = 10 };
+
+#define ALL(receive) \
+    for (int turn = 0; turn < TURNS; turn++) \
+        for (int i = 0; i < PACKETS; i++) refusals += receive(t, packets + 16 * i, 16).refusal
+
+static void pass(int way, twimbor_table *t)
 {
-    enum { TURNS = 60 };
-    twimbor_table t = filled(held), a = t, b = t, c = t;
-    double ours = 1e18, loop = 1e18, plain = 1e18;
-    for (int round = 0; round < ROUNDS; round++) {
-        double start = now();
-        for (int turn = 0; turn < TURNS; turn++)
-            for (int i = 0; i < PACKETS; i++) a = twimbor_receive(a, packets + 16 * i, 16).table;
-        least(&ours, (now() - start) / (TURNS * PACKETS));
-        start = now();
-        b = bench_receive(b, packets, sizeof packets, TURNS);
-        least(&loop, (now() - start) / (TURNS * PACKETS));
-        start = now();
-        for (int turn = 0; turn < TURNS; turn++)
-            for (int i = 0; i < PACKETS; i++) c = plain_receive(c, packets + 16 * i, 16).table;
-        least(&plain, (now() - start) / (TURNS * PACKETS));
+    uint64_t refusals = 0;
+    switch (way) {
+    case FROM_C: ALL(twimbor_receive); break;
+    case LOOP: t->head.count = bench_receive(t->head, t->keys, t->heard, packets, sizeof packets, TURNS); break;
+    case LOOP_VALID: t->head.count = bench_receive_valid(t->head, t->keys, t->heard, packets, sizeof packets, TURNS); break;
+    case PLAIN: ALL(plain_receive); break;
+    case PLAIN_VALID: ALL(plain_receive_valid); break;
     }
-    if (a.count != c.count || b.count != c.count) exit(1);
-    printf("receive, %3d held: %6.1f ns from C, %6.1f ns in a loop, plain C %6.1f ns, ratios %.2f and %.2f\n", held, ours, loop, plain, ours / plain, loop / plain);
+    if (refusals) exit(1);
+}
+
+static void receiving(int held, double limit)
+{
+    twimbor_table start = filled(held), t[WAYS];
+    double best[WAYS];
+    for (int way = 0; way < WAYS; way++) {
+        t[way] = start;
+        best[way] = 1e18;
+    }
+    for (int round = 0; round < ROUNDS; round++)
+        for (int way = 0; way < WAYS; way++) {
+            double begin = now();
+            pass(way, &t[way]);
+            least(&best[way], (now() - begin) / (TURNS * PACKETS));
+        }
+    for (int way = 0; way < WAYS; way++) if (memcmp(&t[way], &t[PLAIN], sizeof start) != 0) exit(1);
+    printf("receive, %3d held: from C %5.1f ns, plain C %5.1f ns, ratio %.2f, at most %.1f\n", held, best[FROM_C], best[PLAIN], best[FROM_C] / best[PLAIN], limit);
+    printf("    in a Rattle loop %5.1f ns, ratio %.2f; without the tests %5.1f ns, plain C %5.1f ns, ratio %.2f\n", best[LOOP],
+        best[LOOP] / best[PLAIN], best[LOOP_VALID], best[PLAIN_VALID], best[LOOP_VALID] / best[PLAIN_VALID]);
 }
 
 /* Each segment an event of its own; unmarked ones are looked up for what they continue. */
 static void listing(int held, bool marked)
 {
-    enum { TURNS = 200 };
+    enum { LISTS = 20 };
     twimbor_table t = filled(held);
-    for (int i = 0; i < held; i++) t.segments[i].marked = marked;
+    for (int i = 0; i < held; i++) {
+        twimbor_segment s = twimbor_segment_at(&t, i);
+        s.marked = marked;
+        twimbor_set_segment(&t, i, s);
+    }
     static twimbor_event out[128];
     double ours = 1e18, plain = 1e18;
     for (int round = 0; round < ROUNDS; round++) {
         double start = now();
-        for (int turn = 0; turn < TURNS; turn++) if (twimbor_list(t, out, 128).events != (size_t)held) exit(1);
-        least(&ours, (now() - start) / TURNS);
+        for (int turn = 0; turn < LISTS; turn++) if (twimbor_list(&t, out, 128).events != (size_t)held) exit(1);
+        least(&ours, (now() - start) / LISTS);
         start = now();
-        for (int turn = 0; turn < TURNS; turn++) if (plain_list_by_number(t, out, 128).events != (size_t)held) exit(1);
-        least(&plain, (now() - start) / TURNS);
+        for (int turn = 0; turn < LISTS; turn++) if (plain_list(&t, out, 128).events != (size_t)held) exit(1);
+        least(&plain, (now() - start) / LISTS);
     }
-    printf("list, %3d events, %s: %8.0f ns, plain C by the same algorithm %8.0f ns, ratio %.2f\n", held, marked ? "marked" : "unmarked", ours, plain, ours / plain);
+    printf("list, %3d events, %8s: %6.0f ns, plain C by the same algorithm %6.0f ns, ratio %.2f, at most 2.5\n", held, marked ? "marked" : "unmarked", ours, plain, ours / plain);
 }
 
 int main(void)
 {
-    int held[] = {1, 16, 64, 128};
-    for (int i = 0; i < 4; i++) receiving(held[i]);
-    for (int i = 0; i < 4; i++) listing(held[i], true);
-    for (int i = 0; i < 4; i++) listing(held[i], false);
+    static const int held[] = {1, 4, 16, 64, 128}, events[] = {1, 16, 64, 128};
+    static const double limits[] = {2.0, 1.6, 1.2, 1.0, 1.0};
+    for (int i = 0; i < 5; i++) receiving(held[i], limits[i]);
+    for (int i = 0; i < 4; i++) listing(events[i], true);
+    for (int i = 0; i < 4; i++) listing(events[i], false);
     return 0;
 }

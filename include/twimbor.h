@@ -1,16 +1,22 @@
 /* Twimbor: RTP packets that carry one telephone-event report (RFC 4733).
  *
- * Every function checks its own input and answers a refusal's number, 0 if nothing is refused. Under a refusal no lent byte
- * changes, and the values answered are zeros. Link with the archive that `rt staticlib twimbor` writes.
+ * Every function checks its own input and answers a refusal's number, 0 if nothing is refused. Under a refusal nothing lent
+ * changes, but for the table of twimbor_open, and the values answered are zeros. Link with the archive that `rt staticlib twimbor`
+ * writes.
  *
- * A pointer with its length stands for a slice. It must point to that many bytes that nothing else writes during the call,
- * and may not be null, not even for a length of 0. */
+ * A pointer with its length stands for a slice, a pointer to a table or a column for all of it. What it points to may not be
+ * written by anything else during the call, and what the call writes may not overlap anything else that is lent to it. No
+ * pointer may be null, not even with a length of 0. */
 #ifndef TWIMBOR_H
 #define TWIMBOR_H
 
 #include <stdbool.h>
 #include <stddef.h>
 #include <stdint.h>
+
+#ifdef __cplusplus
+extern "C" {
+#endif
 
 enum {
     TWIMBOR_TOO_SHORT = 1,          /* fewer than 12 bytes */
@@ -94,34 +100,41 @@ twimbor_count_result twimbor_report_count(twimbor_plan plan);
  * 0 or above the number of reports; 14 if the output has fewer than 16 bytes. All of the output then stays. */
 uint8_t twimbor_write_report(twimbor_plan plan, uint32_t k, uint8_t *output, size_t length);
 
-/* A segment of a table: what was heard of one offset and code. */
+/* What a table was opened with, and how many segments it holds. */
 typedef struct {
-    uint32_t offset;                /* (timestamp - origin) modulo 2^32 */
-    uint8_t code;
-    uint16_t duration;              /* the largest heard */
-    uint8_t volume;                 /* the smallest number heard, the loudest */
+    uint8_t payload_type;           /* 0 to 127 */
+    uint32_t ssrc;
+    uint32_t origin;                /* the timestamp that offsets are counted from */
+    size_t count;                   /* at most 128 */
+} twimbor_head;
+
+/* The receiving table. The first `count` places of its two columns hold segments, by offset, then code; what stands in the
+ * others plays no part. A segment is kept in two numbers, its key and what was heard of it:
+ *
+ *      63                          8 7        0         31           18 17 16 15             0
+ *     +-----------------------------+----------+       +---------------+--+--+----------------+
+ *     |           offset            |   code   |       |    volume     |M |E |    duration    |
+ *     +-----------------------------+----------+       +---------------+--+--+----------------+ */
+typedef struct {
+    twimbor_head head;
+    uint64_t keys[128];
+    uint32_t heard[128];
+} twimbor_table;
+
+/* A segment: what was heard of one offset and code. */
+typedef struct {
+    uint32_t offset;                /* (timestamp - origin) modulo 2^32; below 2^31 */
+    uint8_t code;                   /* 0 to 15 */
+    uint16_t duration;              /* the largest heard; 1 to 65535 */
+    uint8_t volume;                 /* the smallest number heard, the loudest; 0 to 63 */
     bool ended;                     /* E was heard */
     bool marked;                    /* M was heard */
 } twimbor_segment;
 
-/* The receiving table. The first `count` places hold segments, by offset, then code. */
 typedef struct {
-    uint8_t payload_type;
-    uint32_t ssrc;
-    uint32_t origin;
-    size_t count;
-    twimbor_segment segments[128];
-} twimbor_table;
-
-typedef struct {
-    twimbor_table table;
-    uint8_t refusal;
-} twimbor_opened;
-
-typedef struct {
-    twimbor_table table;
-    uint8_t refusal;
+    uint64_t refusal;
     bool is_new;                    /* taken, and its segment is new */
+    size_t count;                   /* the segments held after the call; under a refusal, as many as before */
 } twimbor_received;
 
 /* One event of the list. */
@@ -144,37 +157,105 @@ typedef struct {
     size_t events;
 } twimbor_listed;
 
-/* An empty table for the packets of one payload type and SSRC. Offsets are counted from the timestamp `origin`.
+typedef struct {
+    twimbor_table table;
+    uint8_t refusal;
+} twimbor_opened;
+
+/* The archive's calls take the head by value and the columns as pointers to 128 numbers each, wherever these are kept. The
+ * functions after them do the same with a twimbor_table, and say what each call does. */
+twimbor_opened twimbor_open_table(uint32_t payload_type, uint32_t ssrc, uint32_t origin);
+bool twimbor_is_valid_columns(twimbor_head head, const uint64_t *keys, const uint32_t *heard);
+twimbor_received twimbor_receive_columns(twimbor_head head, uint64_t *keys, uint32_t *heard, const uint8_t *packet, size_t length);
+twimbor_event_result twimbor_event_at_columns(twimbor_head head, const uint64_t *keys, const uint32_t *heard, uint32_t k);
+twimbor_listed twimbor_list_columns(twimbor_head head, const uint64_t *keys, const uint32_t *heard, twimbor_event *list,
+                                    size_t length);
+
+/* Opens an empty table for the packets of one payload type and SSRC, with zeros in all places. Offsets are counted from the
+ * timestamp `origin`.
  *
- * Refused: 12 if the payload type is above 127, with a table of zeros. */
-twimbor_opened twimbor_open(uint32_t payload_type, uint32_t ssrc, uint32_t origin);
+ * Answers 0, or refuses: 12 if the payload type is above 127, and the table is then all zeros. */
+static inline uint8_t twimbor_open(twimbor_table *table, uint32_t payload_type, uint32_t ssrc, uint32_t origin)
+{
+    twimbor_opened opened = twimbor_open_table(payload_type, ssrc, origin);
+    *table = opened.table;
+    return opened.refusal;
+}
 
 /* Whether a table passes the tests of refusal 16: at most 128 segments held; these strictly rising by offset, then code; offsets
- * below 2^31; codes 0 to 15; durations 1 to 65535; volumes 0 to 63; a payload type up to 127. A table that was opened, and one
- * that receiving returned for it, always does; one that was stored and read back may be tested with this. */
-bool twimbor_is_valid(twimbor_table table);
+ * below 2^31; codes 0 to 15; durations 1 to 65535; volumes 0 to 63; a payload type up to 127. A table that was opened always
+ * does, whatever it received; one that was stored and read back may be tested with this. */
+static inline bool twimbor_is_valid(const twimbor_table *table)
+{
+    return twimbor_is_valid_columns(table->head, table->keys, table->heard);
+}
 
-/* Receives a packet of `length` bytes, and answers the table with its report taken: the pair of offset and code keeps the largest
+/* Receives a packet of `length` bytes, and takes its report into the table: the pair of offset and code keeps the largest
  * duration, the smallest volume number, whether E and whether M was heard. The sequence number plays no part. `is_new` tells
- * whether the pair was not held before.
+ * whether the pair was not held before. A new segment moves those after it up by one place; the places above them stay.
  *
  * Refused, in this order: 16 if the table fails its tests; 1 to 4 as by twimbor_read; 5 if it is another payload type than the
  * table's; 6 if it is another SSRC; 7 to 9 as by twimbor_read; 10 if the offset is 2^31 or more; 11 if 128 segments are held
- * and this pair is none of them. The table then comes back as it was, in every place. */
-twimbor_received twimbor_receive(twimbor_table table, const uint8_t *packet, size_t length);
+ * and this pair is none of them. The table then is as it was, in every place. */
+static inline twimbor_received twimbor_receive(twimbor_table *table, const uint8_t *packet, size_t length)
+{
+    twimbor_received received = twimbor_receive_columns(table->head, table->keys, table->heard, packet, length);
+    table->head.count = received.count;
+    return received;
+}
 
 /* The event at number k, counted from 1 by start, then code. A key held for longer than 65535 units is one event of several
  * segments.
  *
  * Refused, in this order: 16 if the table fails its tests; 13 if k is 0 or above the number of events. The event is then all
  * zeros. */
-twimbor_event_result twimbor_event_at(twimbor_table table, uint32_t k);
+static inline twimbor_event_result twimbor_event_at(const twimbor_table *table, uint32_t k)
+{
+    return twimbor_event_at_columns(table->head, table->keys, table->heard, k);
+}
 
 /* Writes all events, by start, then code, into the first records of a lent list of `length` records, and answers how many there
  * are; the other records stay. A table has at most 128 events.
  *
  * Refused, in this order: 16 if the table fails its tests; 15 if the list has fewer records than there are events. The number
  * of events is then 0, and all records stay. */
-twimbor_listed twimbor_list(twimbor_table table, twimbor_event *list, size_t length);
+static inline twimbor_listed twimbor_list(const twimbor_table *table, twimbor_event *list, size_t length)
+{
+    return twimbor_list_columns(table->head, table->keys, table->heard, list, length);
+}
+
+/* The segment at place i, counted from 0, of a table that passes the tests; all zeros if the table holds none there. In a table
+ * that fails them, an offset or a volume too large for its field reads as the largest number of the field, which is outside
+ * the range too. */
+static inline twimbor_segment twimbor_segment_at(const twimbor_table *table, size_t i)
+{
+    twimbor_segment segment = {0, 0, 0, 0, false, false};
+    if (i < table->head.count && i < 128) {
+        uint64_t key = table->keys[i];
+        uint32_t heard = table->heard[i];
+        segment.offset = key >> 40 ? UINT32_MAX : (uint32_t)(key >> 8);
+        segment.code = (uint8_t)key;
+        segment.duration = (uint16_t)heard;
+        segment.volume = heard >> 26 ? UINT8_MAX : (uint8_t)(heard >> 18);
+        segment.ended = heard >> 16 & 1;
+        segment.marked = heard >> 17 & 1;
+    }
+    return segment;
+}
+
+/* Puts a segment at place i, counted from 0; nothing changes if i is above 127. A table of given segments is opened, gets them in
+ * their order, and then their number in `head.count`. Whether it passes the tests, twimbor_is_valid tells. */
+static inline void twimbor_set_segment(twimbor_table *table, size_t i, twimbor_segment segment)
+{
+    if (i < 128) {
+        table->keys[i] = (uint64_t)segment.offset << 8 | segment.code;
+        table->heard[i] = segment.duration | (uint32_t)segment.ended << 16 | (uint32_t)segment.marked << 17
+            | (uint32_t)segment.volume << 18;
+    }
+}
+
+#ifdef __cplusplus
+}
+#endif
 
 #endif

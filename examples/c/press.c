@@ -10,22 +10,20 @@ int main(void)
     twimbor_plan plan = {
         .payload_type = 101, .ssrc = 287454020, .sequence = 1, .start = 1000, .code = 4, .volume = 10, .length = 70000, .period = 2400,
     };
-    twimbor_opened opened = twimbor_open(plan.payload_type, plan.ssrc, plan.start);
-    if (opened.refusal != 0) return 1;
-    twimbor_table table = opened.table;
+    twimbor_table table;
+    if (twimbor_open(&table, plan.payload_type, plan.ssrc, plan.start) != 0) return 1;
 
     uint32_t reports = twimbor_report_count(plan).reports;
     for (uint32_t k = 1; k <= reports; k++) {
         uint8_t packet[16];
         if (twimbor_write_report(plan, k, packet, sizeof packet) != 0) return 1;
-        twimbor_received received = twimbor_receive(table, packet, sizeof packet);
+        twimbor_received received = twimbor_receive(&table, packet, sizeof packet);
         if (received.refusal != 0) printf("packet %u is refused with %u\n", (unsigned)k, (unsigned)received.refusal);
-        table = received.table;
     }
 
     twimbor_event events[128];
-    twimbor_listed listed = twimbor_list(table, events, 128);
-    printf("%u packets, %zu segments, %zu event\n", (unsigned)reports, table.count, listed.events);
+    twimbor_listed listed = twimbor_list(&table, events, 128);
+    printf("%u packets, %zu segments, %zu event\n", (unsigned)reports, table.head.count, listed.events);
     for (size_t i = 0; i < listed.events; i++)
         printf("key %u, from %u on, %u units, volume %u, began %d, ended %d\n", (unsigned)events[i].code, (unsigned)events[i].start,
             (unsigned)events[i].length, (unsigned)events[i].volume, events[i].began, events[i].ended);

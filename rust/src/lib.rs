@@ -33,7 +33,7 @@
 //! for packet in long.packets()? {
 //!     table.receive(&packet)?;
 //! }
-//! assert_eq!(table.count, 3);
+//! assert_eq!(table.segments().len(), 3);
 //! assert_eq!(table.events()?, [event, Event { start: 5000, length: 70_000, ..event }]);
 //! # Ok::<(), twimbor::Refusal>(())
 //! ```
@@ -52,4 +52,4 @@ pub use event::Event;
 pub use plan::{Packets, Plan};
 pub use refusal::Refusal;
 pub use report::Report;
-pub use table::{PLACES, Segment, Table, Taken};
+pub use table::{Head, PLACES, Segment, Table, Taken};

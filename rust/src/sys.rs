@@ -1,10 +1,10 @@
-//! The calls of `include/twimbor.h`, safe to call, with the answers as C gets them. The crate's own
-//! types say the same with `Result` and [`Refusal`](crate::Refusal).
+//! The archive's calls, safe to call, with the answers as C gets them. The crate's own types say the
+//! same with `Result` and [`Refusal`](crate::Refusal).
 //!
-//! Each call answers the refusal's number, 0 if nothing is refused. Under a refusal no lent byte or
-//! record changes, and the values answered are zeros.
+//! Each call answers the refusal's number, 0 if nothing is refused. Under a refusal nothing lent
+//! changes, and the values answered are zeros.
 
-use crate::{Event, Plan, Report, Table};
+use crate::{Event, Head, PLACES, Plan, Report, Table};
 
 /// What [`read`] answers.
 #[repr(C)]
@@ -26,7 +26,7 @@ pub struct CountResult {
     pub refusal: u8,
 }
 
-/// What [`open`] answers.
+/// What [`open_table`] answers.
 #[repr(C)]
 #[derive(Clone, Debug, PartialEq, Eq)]
 pub struct Opened {
@@ -36,19 +36,19 @@ pub struct Opened {
     pub refusal: u8,
 }
 
-/// What [`receive`] answers.
+/// What [`receive_columns`] answers.
 #[repr(C)]
-#[derive(Clone, Debug, PartialEq, Eq)]
+#[derive(Clone, Copy, Debug, PartialEq, Eq)]
 pub struct Received {
-    /// The table afterwards; under a refusal, as it was.
-    pub table: Table,
     /// The refusal's number, or 0.
-    pub refusal: u8,
+    pub refusal: u64,
     /// The packet was taken, and its segment is new.
     pub is_new: bool,
+    /// The segments held after the call; under a refusal, as many as before.
+    pub count: usize,
 }
 
-/// What [`event_at`] answers.
+/// What [`event_at_columns`] answers.
 #[repr(C)]
 #[derive(Clone, Copy, Debug, PartialEq, Eq)]
 pub struct EventResult {
@@ -58,7 +58,7 @@ pub struct EventResult {
     pub refusal: u8,
 }
 
-/// What [`list`] answers.
+/// What [`list_columns`] answers.
 #[repr(C)]
 #[derive(Clone, Copy, Debug, PartialEq, Eq)]
 pub struct Listed {
@@ -68,6 +68,9 @@ pub struct Listed {
     pub events: usize,
 }
 
+type Keys = [u64; PLACES];
+type Heard = [u32; PLACES];
+
 // The compiler cannot check these lines against the library. They follow include/twimbor.h, and the
 // tests compare the structs' places with the header's and the calls' answers with document 01.
 unsafe extern "C" {
@@ -75,11 +78,24 @@ unsafe extern "C" {
     fn twimbor_write(report: Report, output: *mut u8, length: usize) -> u8;
     safe fn twimbor_report_count(plan: Plan) -> CountResult;
     fn twimbor_write_report(plan: Plan, k: u32, output: *mut u8, length: usize) -> u8;
-    safe fn twimbor_open(payload_type: u32, ssrc: u32, origin: u32) -> Opened;
-    safe fn twimbor_is_valid(table: Table) -> bool;
-    fn twimbor_receive(table: Table, packet: *const u8, length: usize) -> Received;
-    safe fn twimbor_event_at(table: Table, k: u32) -> EventResult;
-    fn twimbor_list(table: Table, list: *mut Event, length: usize) -> Listed;
+    safe fn twimbor_open_table(payload_type: u32, ssrc: u32, origin: u32) -> Opened;
+    safe fn twimbor_is_valid_columns(head: Head, keys: &Keys, heard: &Heard) -> bool;
+    fn twimbor_receive_columns(
+        head: Head,
+        keys: &mut Keys,
+        heard: &mut Heard,
+        packet: *const u8,
+        length: usize,
+    ) -> Received;
+    safe fn twimbor_event_at_columns(head: Head, keys: &Keys, heard: &Heard, k: u32)
+    -> EventResult;
+    fn twimbor_list_columns(
+        head: Head,
+        keys: &Keys,
+        heard: &Heard,
+        list: *mut Event,
+        length: usize,
+    ) -> Listed;
 }
 
 // A slice is never null, not even an empty one, points to as many elements as it says, and a lent
@@ -106,26 +122,26 @@ pub fn write_report(plan: Plan, k: u32, output: &mut [u8]) -> u8 {
 }
 
 /// An empty table.
-pub fn open(payload_type: u32, ssrc: u32, origin: u32) -> Opened {
-    twimbor_open(payload_type, ssrc, origin)
+pub fn open_table(payload_type: u32, ssrc: u32, origin: u32) -> Opened {
+    twimbor_open_table(payload_type, ssrc, origin)
 }
 
 /// Whether a table passes the tests of refusal 16.
-pub fn is_valid(table: &Table) -> bool {
-    twimbor_is_valid(table.clone())
+pub fn is_valid_columns(head: Head, keys: &Keys, heard: &Heard) -> bool {
+    twimbor_is_valid_columns(head, keys, heard)
 }
 
 /// Receives a packet.
-pub fn receive(table: &Table, packet: &[u8]) -> Received {
-    unsafe { twimbor_receive(table.clone(), packet.as_ptr(), packet.len()) }
+pub fn receive_columns(head: Head, keys: &mut Keys, heard: &mut Heard, packet: &[u8]) -> Received {
+    unsafe { twimbor_receive_columns(head, keys, heard, packet.as_ptr(), packet.len()) }
 }
 
 /// The event at number k.
-pub fn event_at(table: &Table, k: u32) -> EventResult {
-    twimbor_event_at(table.clone(), k)
+pub fn event_at_columns(head: Head, keys: &Keys, heard: &Heard, k: u32) -> EventResult {
+    twimbor_event_at_columns(head, keys, heard, k)
 }
 
 /// Writes the events into the first records of a lent list.
-pub fn list(table: &Table, list: &mut [Event]) -> Listed {
-    unsafe { twimbor_list(table.clone(), list.as_mut_ptr(), list.len()) }
+pub fn list_columns(head: Head, keys: &Keys, heard: &Heard, list: &mut [Event]) -> Listed {
+    unsafe { twimbor_list_columns(head, keys, heard, list.as_mut_ptr(), list.len()) }
 }

@@ -5,7 +5,6 @@ use crate::{Event, sys};
 pub const PLACES: usize = 128;
 
 /// A segment of a table: what was heard of one offset and code.
-#[repr(C)]
 #[derive(Clone, Copy, Debug, Default, PartialEq, Eq, Hash)]
 pub struct Segment {
     /// (timestamp - origin) modulo 2^32, below 2^31.
@@ -22,39 +21,74 @@ pub struct Segment {
     pub marked: bool,
 }
 
-/// The receiving table.
-///
-/// [`Table::open`] makes an empty one, and [`Table::receive`] leaves a valid one valid. The fields
-/// are public so that a table can be stored and made again. Every call tests the table that it is
-/// given, and answers 16 if it fails.
-///
-/// ```
-/// use twimbor::{Refusal, Segment, Table};
-///
-/// let mut table = Table::open(101, 0x1122_3344, 0)?;
-/// table.segments[0] = Segment { offset: 1000, code: 5, duration: 400, ..Segment::default() };
-/// table.count = 1;
-/// assert!(table.is_valid());
-/// table.segments[0].code = 16;
-/// assert_eq!(table.events(), Err(Refusal::InvalidTable));
-/// # Ok::<(), Refusal>(())
-/// ```
-///
-/// Two tables are equal if all their fields are, the places above the number held included.
+// A table keeps a segment in two numbers, as include/twimbor.h draws them.
+impl Segment {
+    fn of_numbers(key: u64, heard: u32) -> Segment {
+        Segment {
+            offset: u32::try_from(key >> 8).unwrap_or(u32::MAX),
+            code: key as u8,
+            duration: heard as u16,
+            volume: u8::try_from(heard >> 18).unwrap_or(u8::MAX),
+            ended: heard >> 16 & 1 == 1,
+            marked: heard >> 17 & 1 == 1,
+        }
+    }
+
+    fn key(&self) -> u64 {
+        u64::from(self.offset) << 8 | u64::from(self.code)
+    }
+
+    fn heard(&self) -> u32 {
+        let flags = u32::from(self.ended) << 16 | u32::from(self.marked) << 17;
+        u32::from(self.duration) | flags | u32::from(self.volume) << 18
+    }
+}
+
+/// What a table was opened with, and how many segments it holds.
 #[repr(C)]
-#[derive(Clone, Debug, PartialEq, Eq)]
-pub struct Table {
+#[derive(Clone, Copy, Debug, Default, PartialEq, Eq, Hash)]
+pub struct Head {
     /// The payload type that is received, 0 to 127.
     pub payload_type: u8,
     /// The source that is received.
     pub ssrc: u32,
     /// The timestamp that offsets are counted from.
     pub origin: u32,
-    /// How many segments are held.
+    /// How many segments are held, at most 128.
     pub count: usize,
-    /// The first `count` places hold segments, by offset, then code. What stands in the others
-    /// plays no part.
-    pub segments: [Segment; PLACES],
+}
+
+/// The receiving table.
+///
+/// [`Table::open`] makes an empty one, and [`Table::receive`] leaves a valid one valid. To store a
+/// table, keep its [`segments`](Table::segments); [`Table::from_segments`] makes it again.
+///
+/// ```
+/// use twimbor::{Refusal, Segment, Table};
+///
+/// let key = Segment { offset: 1000, code: 5, duration: 400, ..Segment::default() };
+/// let table = Table::from_segments(101, 0x1122_3344, 0, &[key])?;
+/// assert!(table.segments().eq([key]));
+/// let other = Segment { code: 16, ..key };
+/// let refused = Table::from_segments(101, 0x1122_3344, 0, &[other]);
+/// assert_eq!(refused, Err(Refusal::InvalidTable));
+/// # Ok::<(), Refusal>(())
+/// ```
+///
+/// The fields are public, for those who store the table as it is. Every call tests the table that
+/// it is given, and answers 16 if it fails. Two tables are equal if all their fields are, the
+/// places above the number held included.
+#[repr(C)]
+#[derive(Clone, Debug, PartialEq, Eq)]
+pub struct Table {
+    /// What the table was opened with, and how many segments it holds.
+    pub head: Head,
+    /// The first `head.count` places hold the segments' offsets and codes, and rise: the code in
+    /// the lowest 8 bits, the offset above. What stands in the others plays no part.
+    pub keys: [u64; PLACES],
+    /// What was heard of the same segments: the duration in the lowest 16 bits, then E, then M, the
+    /// volume above.
+    pub heard: [u32; PLACES],
 }
 
 /// What [`Table::receive`] says of a packet that it took.
@@ -69,24 +103,48 @@ pub enum Taken {
 impl Table {
     /// An empty table for one payload type and SSRC. Refusal: 12.
     pub fn open(payload_type: u32, ssrc: u32, origin: u32) -> Result<Table, Refusal> {
-        let opened = sys::open(payload_type, ssrc, origin);
+        let opened = sys::open_table(payload_type, ssrc, origin);
         unless_refused(opened.refusal, opened.table)
+    }
+
+    /// A table that holds these segments. Refusals: 12; 16 if it fails the tests of
+    /// [`Table::is_valid`].
+    pub fn from_segments(
+        payload_type: u32,
+        ssrc: u32,
+        origin: u32,
+        segments: &[Segment],
+    ) -> Result<Table, Refusal> {
+        let mut table = Table::open(payload_type, ssrc, origin)?;
+        table.head.count = segments.len();
+        for (place, segment) in segments.iter().take(PLACES).enumerate() {
+            table.keys[place] = segment.key();
+            table.heard[place] = segment.heard();
+        }
+        if table.is_valid() { Ok(table) } else { Err(Refusal::InvalidTable) }
+    }
+
+    /// The segments held, by offset, then code. In a table that fails the tests, an offset or a
+    /// volume too large for its field reads as the largest number of the field, which is outside
+    /// the range too.
+    pub fn segments(&self) -> impl ExactSizeIterator<Item = Segment> {
+        let numbers = self.keys.iter().zip(&self.heard).take(self.head.count);
+        numbers.map(|(&key, &heard)| Segment::of_numbers(key, heard))
     }
 
     /// Whether the table passes the tests of refusal 16: at most 128 segments, strictly rising by
     /// offset, then code; offsets below 2^31, codes 0 to 15, durations at least 1, volumes 0 to 63;
     /// payload type up to 127.
     pub fn is_valid(&self) -> bool {
-        sys::is_valid(self)
+        sys::is_valid_columns(self.head, &self.keys, &self.heard)
     }
 
     /// Receives a packet. Refusals: 16, then 1 to 11; the table stays as it was.
     pub fn receive(&mut self, packet: &[u8]) -> Result<Taken, Refusal> {
-        let received = sys::receive(self, packet);
-        // Under a refusal too: the library hands the table back as it was.
-        *self = received.table;
+        let received = sys::receive_columns(self.head, &mut self.keys, &mut self.heard, packet);
+        self.head.count = received.count;
         let taken = if received.is_new { Taken::New } else { Taken::Known };
-        unless_refused(received.refusal, taken)
+        unless_refused(received.refusal as u8, taken)
     }
 
     /// All events, by start, then code. Refusal: 16.
@@ -100,13 +158,13 @@ impl Table {
     /// Writes the events into the first records of a lent list, and answers how many; the other
     /// records stay. Refusals: 16, 15; then all records stay.
     pub fn list_into(&self, list: &mut [Event]) -> Result<usize, Refusal> {
-        let listed = sys::list(self, list);
+        let listed = sys::list_columns(self.head, &self.keys, &self.heard, list);
         unless_refused(listed.refusal, listed.events)
     }
 
     /// The event at number k, counted from 1. Refusals: 16, 13.
-    pub fn event(&self, k: u32) -> Result<Event, Refusal> {
-        let result = sys::event_at(self, k);
+    pub fn event_at(&self, k: u32) -> Result<Event, Refusal> {
+        let result = sys::event_at_columns(self.head, &self.keys, &self.heard, k);
         unless_refused(result.refusal, result.event)
     }
 }

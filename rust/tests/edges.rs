@@ -16,10 +16,7 @@ const P7: Plan = Plan {
 
 /// The events of a table that holds these two segments.
 fn events(first: Segment, second: Segment) -> Vec<Event> {
-    let mut table = Table::open(101, 1, 0).unwrap();
-    table.count = 2;
-    table.segments[..2].copy_from_slice(&[first, second]);
-    table.events().unwrap()
+    Table::from_segments(101, 1, 0, &[first, second]).unwrap().events().unwrap()
 }
 
 #[test]
@@ -91,7 +88,7 @@ fn a_full_table_takes_what_it_knows() {
     }
     Plan { start: 77, ..P7 }.write_report(2, &mut packet).unwrap();
     assert_eq!(table.receive(&packet), Ok(Taken::Known));
-    assert_eq!(table.count, 128);
+    assert_eq!(table.segments().len(), 128);
 }
 
 #[test]

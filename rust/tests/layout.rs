@@ -5,7 +5,7 @@ use std::fs;
 use std::mem::{offset_of, size_of};
 use std::process::Command;
 use twimbor::sys::{CountResult, EventResult, Listed, Opened, ReadResult, Received};
-use twimbor::{Event, Plan, Refusal, Report, Segment, Table};
+use twimbor::{Event, Head, Plan, Refusal, Report, Table};
 
 fn assertion(c: &str, value: usize) -> String {
     format!("_Static_assert({c} == {value}, \"not as in Rust\");\n")
@@ -52,15 +52,13 @@ fn structs_and_numbers_are_the_headers() {
     layout!(file, Plan as "twimbor_plan" {
         payload_type, ssrc, sequence, start, code, volume, length, period
     });
-    layout!(file, Segment as "twimbor_segment" {
-        offset, code, duration, volume, ended, marked
-    });
-    layout!(file, Table as "twimbor_table" { payload_type, ssrc, origin, count, segments });
+    layout!(file, Head as "twimbor_head" { payload_type, ssrc, origin, count });
+    layout!(file, Table as "twimbor_table" { head, keys, heard });
     layout!(file, Event as "twimbor_event" { code, start, length, volume, began, ended });
     layout!(file, ReadResult as "twimbor_read_result" { report, refusal });
     layout!(file, CountResult as "twimbor_count_result" { reports, refusal });
     layout!(file, Opened as "twimbor_opened" { table, refusal });
-    layout!(file, Received as "twimbor_received" { table, refusal, is_new });
+    layout!(file, Received as "twimbor_received" { refusal, is_new, count });
     layout!(file, EventResult as "twimbor_event_result" { event, refusal });
     layout!(file, Listed as "twimbor_listed" { refusal, events });
     for refusal in Refusal::ALL {

@@ -1,9 +1,9 @@
 // Events of tables that no call made: rows P9 to P12 and others, each at event numbers on both sides of the count.
 use super::show;
-use super::tables::segment_of;
+use super::tables::heard;
+use super::tables::key;
 use model::Event;
 use model::EventAnswer;
-use model::Segment;
 use model::Table;
 
 const LISTS: usize = 10;
@@ -29,20 +29,24 @@ fn list_cell(at: usize) -> u32 {
     LIST[at]
 }
 
-// The segment at a place of the rows; zeros beyond them.
-fn segment_at(at: usize) -> Segment {
-    if 174 < at {
-        return segment_of(0, 0, 0, 0);
+// The two numbers of the segment at a place of the rows; zeros beyond them.
+fn key_at(at: usize) -> u64 {
+    if 178 < at {
+        return 0;
     }
-    let mut s = segment_of(
-        list_cell(at),
-        list_cell(at + 1),
+    key(list_cell(at), list_cell(at + 1))
+}
+
+fn heard_at(at: usize) -> u32 {
+    if 174 < at {
+        return 0;
+    }
+    heard(
         list_cell(at + 2),
         list_cell(at + 3),
-    );
-    s.ended = list_cell(at + 4) == 1;
-    s.marked = list_cell(at + 5) == 1;
-    s
+        list_cell(at + 4) == 1,
+        list_cell(at + 5) == 1,
+    )
 }
 
 // A table that no call made, with the row's segments.
@@ -51,23 +55,26 @@ fn made(i: usize) -> Table {
     let mut t = o.table;
     if i < LISTS {
         let at = i * 18;
-        let a = segment_at(at);
-        let b = segment_at(at + 6);
-        let c = segment_at(at + 12);
-        t.segments[0] = a;
-        t.segments[1] = b;
-        t.segments[2] = c;
+        let a = heard_at(at);
+        let b = heard_at(at + 6);
+        let c = heard_at(at + 12);
+        t.keys[0] = key_at(at);
+        t.keys[1] = key_at(at + 6);
+        t.keys[2] = key_at(at + 12);
+        t.heard[0] = a;
+        t.heard[1] = b;
+        t.heard[2] = c;
         let mut n = 0usize;
-        if 0 < a.duration {
+        if 0 < a {
             n = 1;
         }
-        if 0 < b.duration {
+        if 0 < b {
             n = 2;
         }
-        if 0 < c.duration {
+        if 0 < c {
             n = 3;
         }
-        t.count = n;
+        t.head.count = n;
     }
     t
 }
@@ -89,7 +96,8 @@ fn list_row(i: usize, k: u32) {
     show::number((i % 65536) as u32);
     show::name(b" event");
     show::number(k);
-    let a = events::event_at(made(i), k);
+    let t = made(i);
+    let a = events::event_at(t.head, &t.keys, &t.heard, k);
     match a {
         EventAnswer::Found(v) => event(v),
         EventAnswer::Refused(n) => show::answer(n),

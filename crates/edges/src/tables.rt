@@ -1,11 +1,11 @@
 // Both sides of each edge of the receiving table.
 use super::packets::size;
 use super::show;
-use model::ReceiveAnswer;
 use model::Received;
 use model::Report;
-use model::Segment;
 use model::Table;
+use table::numbers::heard_of;
+use table::numbers::key_of;
 
 const OPENS: usize = 4;
 
@@ -35,9 +35,10 @@ fn open_row(i: usize) {
     show::number(open_cell(at + 2));
     let o = table::open(open_cell(at), open_cell(at + 1), open_cell(at + 2));
     show::name(b" =");
-    show::number(o.table.payload_type as u32);
-    show::number(o.table.ssrc);
-    show::number(o.table.origin);
+    let head = o.table.head;
+    show::number(head.payload_type as u32);
+    show::number(head.ssrc);
+    show::number(head.origin);
     show::answer(o.refusal);
 }
 
@@ -47,20 +48,48 @@ fn packet_of(r: Report) -> [u8; 16] {
     out
 }
 
-fn receive_bytes(t: Table, b: [u8; 16]) -> Received {
-    receive::receive(t, &b[0..16])
+// A table after a receiving call, and the answer.
+struct After {
+    table: Table,
+    answer: Received,
 }
 
-// The table after a report was received, and the answer printed: new, known or the refusal's number.
-fn received(t: Table, r: Report) -> Table {
-    let got = receive_bytes(t, packet_of(r));
-    let a = got.answer;
-    match a {
-        ReceiveAnswer::New => show::name(b" -> new\n"),
-        ReceiveAnswer::Known => show::name(b" -> known\n"),
-        ReceiveAnswer::Refused(n) => show::answer(n),
+// The call on the columns of a copy, so that a row can start from the same table as another.
+fn receive_bytes(t: Table, b: [u8; 16]) -> After {
+    let mut head = t.head;
+    let mut keys = t.keys;
+    let mut heard = t.heard;
+    let got = receive::receive(head, &mut keys, &mut heard, &b[0..16]);
+    head.count = got.count;
+    let u = Table {
+        head: head,
+        keys: keys,
+        heard: heard,
+    };
+    After {
+        table: u,
+        answer: got,
     }
-    let u = got.table;
+}
+
+// New, known or the refusal's number.
+fn show_answer(a: Received) {
+    if a.refusal != 0 {
+        show::answer((a.refusal % 256) as u8);
+        return;
+    }
+    if a.is_new {
+        show::name(b" -> new\n");
+    } else {
+        show::name(b" -> known\n");
+    }
+}
+
+// The table after a report was received, and the answer printed.
+fn received(t: Table, r: Report) -> Table {
+    let after = receive_bytes(t, packet_of(r));
+    show_answer(after.answer);
+    let u = after.table;
     u
 }
 
@@ -141,14 +170,15 @@ fn receive_row(t: Table, i: usize) -> Table {
     received(t, r)
 }
 
-fn segment(s: Segment) {
+// The fields of a segment's two numbers.
+fn segment(key: u64, heard: u32) {
     show::name(b"  segment");
-    show::number(s.offset);
-    show::number(s.code as u32);
-    show::number(s.duration as u32);
-    show::number(s.volume as u32);
-    show::number(s.ended as u32);
-    show::number(s.marked as u32);
+    show::number((key / 256 % 0x1_0000_0000) as u32);
+    show::number((key % 256) as u32);
+    show::number(heard % 65536);
+    show::number(heard / 0x4_0000);
+    show::number(heard / 0x1_0000 % 2);
+    show::number(heard / 0x2_0000 % 2);
     show::name(b"\n");
 }
 
@@ -157,7 +187,7 @@ fn segments(t: Table, n: usize) {
     let mut i = 0usize;
     while i < n {
         if i < 128 {
-            segment(t.segments[i]);
+            segment(t.keys[i], t.heard[i]);
         }
         i += 1;
     }
@@ -170,8 +200,8 @@ fn filled(n: u32) -> Table {
     let mut i = n;
     while 0 < i {
         i -= 1;
-        let got = receive_bytes(t, packet_of(report_of(101, 7, i, 5, 400, 10, false, true)));
-        let u = got.table;
+        let after = receive_bytes(t, packet_of(report_of(101, 7, i, 5, 400, 10, false, true)));
+        let u = after.table;
         t = u;
     }
     t
@@ -190,7 +220,8 @@ fn rooms() {
     show::name(b"128 held, another offset");
     let after = received(full, report_of(101, 7, 500, 5, 400, 10, false, true));
     show::name(b"  still held");
-    show::number((after.count % 65536) as u32);
+    let head = after.head;
+    show::number((head.count % 65536) as u32);
     show::name(b"\n");
 }
 
@@ -235,15 +266,13 @@ fn half(n: u32) -> u16 {
     (n % 65536) as u16
 }
 
-pub fn segment_of(offset: u32, code: u32, duration: u32, volume: u32) -> Segment {
-    Segment {
-        offset: offset,
-        code: byte(code),
-        duration: half(duration),
-        volume: byte(volume),
-        ended: false,
-        marked: false,
-    }
+// A segment's two numbers, of fields as the rows have them.
+pub fn key(offset: u32, code: u32) -> u64 {
+    key_of(offset, byte(code))
+}
+
+pub fn heard(duration: u32, volume: u32, ended: bool, marked: bool) -> u32 {
+    heard_of(half(duration), byte(volume), ended, marked)
 }
 
 // A table that no call made.
@@ -252,15 +281,12 @@ fn made(i: usize) -> Table {
     let mut t = o.table;
     if i < TESTS {
         let at = i * 6;
-        t.count = size(test_cell(at));
-        t.payload_type = byte(test_cell(at + 1));
-        t.segments[0] = segment_of(16, 5, 1, 63);
-        t.segments[1] = segment_of(
-            test_cell(at + 2),
-            test_cell(at + 3),
-            test_cell(at + 4),
-            test_cell(at + 5),
-        );
+        t.head.count = size(test_cell(at));
+        t.head.payload_type = byte(test_cell(at + 1));
+        t.keys[0] = key(16, 5);
+        t.heard[0] = heard(1, 63, false, false);
+        t.keys[1] = key(test_cell(at + 2), test_cell(at + 3));
+        t.heard[1] = heard(test_cell(at + 4), test_cell(at + 5), false, false);
     }
     t
 }
@@ -278,16 +304,13 @@ fn test_row(i: usize) {
     show::number(test_cell(at + 4));
     show::number(test_cell(at + 5));
     let t = made(i);
+    let head = t.head;
+    let mut keys = t.keys;
+    let mut heard = t.heard;
     show::name(b" passes");
-    show::number(table::is_valid(t) as u32);
+    show::number(table::is_valid(head, &keys, &heard) as u32);
     show::name(b", receive of no bytes");
-    let got = receive::receive(t, b"");
-    let a = got.answer;
-    match a {
-        ReceiveAnswer::New => show::name(b" -> new\n"),
-        ReceiveAnswer::Known => show::name(b" -> known\n"),
-        ReceiveAnswer::Refused(n) => show::answer(n),
-    }
+    show_answer(receive::receive(head, &mut keys, &mut heard, b""));
 }
 
 pub fn run() {
@@ -300,7 +323,8 @@ pub fn run() {
         let u = receive_row(t, j);
         t = u;
     }
-    segments(t, t.count);
+    let head = t.head;
+    segments(t, head.count);
     rooms();
     for k in 0..TESTS {
         test_row(k);

@@ -1,29 +1,26 @@
--- Each way through the definitions of Places and Answer, as a law over a table and its places.
-use Prim.Native.Nat.{ℕ, suc, _+_, _-_, _*_, _≤_, _<_, min}
+-- Each way through the definitions of Places and Answer, as a law over two columns and their places.
+use Prim.Native.Nat.{ℕ, zero, suc, _+_, _-_, _*_, _≤_, _<_, _%_, min}
 use mathlib.Core.Path.{_≡_, refl, sym, _∙_, ap, ap₂}
 use mathlib.Core.Bool.{Bool, true, false, not, cond}
-use mathlib.Core.List.{List, [], _∷_, map}
+use mathlib.Core.List.{List, [], _∷_}
 use native.Mathlib.Numerals.{add-one}
 use native.Mathlib.Omega.{arith}
 use borrow.Author.Needs.{needs}
 use borrow.Author.Tests.{lt-ltb, le-ltb, ltb-true, ltb-false, eq-eqb, ne-eqb, not-true, not-false}
-use lib.Dec.{eqb, ltb}
-use lib.ListN.{length, getD, drop, length-take, length-map, drop-of-length-le}
-use lib.Seq.{drop-cons, getD-take}
+use lib.Dec.{ltb, eqb}
+use lib.ListN.{length, getD}
 use Rattle.model.specs.declared.Segment.{Segment}
+use Rattle.model.specs.declared.Head.{Head}
 use Rattle.model.specs.declared.Table.{Table}
 use Rattle.model.specs.declared.Event.{Event}
 use Rattle.model.specs.Limits.{isFull}
 use Rattle.model.specs.Refusals.{noEvent, answered, refusedBy}
-use Rattle.model.specs.Table.{noSegment, held, valid}
+use Rattle.model.specs.Table.{segmentAt, segmentsFrom, tableOf, validSegment, valid}
 use Rattle.model.specs.Events.{units, loudness, lastEnded, eventOf, continues, continuesNearest, continuing, eventsFrom}
 use Rattle.model.specs.List.{events, eventAt}
-use Rattle.events.specs.Places.{segmentAt, earlier, continuesEarlier, continuations, lengthened, eventFrom, eventsAfter, Reached}
+use Rattle.model.proofs.Tables.{tests-passed, valid-from}
+use Rattle.events.specs.Places.{InRanges, earlier, begins, later, lengthened, eventFrom, eventsIn}
 use Rattle.events.specs.Answer.{answerFor}
-
--- an array's elements are as many as what they are told as
-pub length-mapped : (A B : Type 0) (f : A → B) (l : List A) (n : ℕ) → length (map f l) ≡ n → length l ≡ n
-length-mapped A B f l n e = sym (length-map l f) ∙ e
 
 -- ONE SEGMENT AND THE NEXT
 
@@ -34,77 +31,17 @@ module _ (p s : Segment) (unmarked : s .marked ≡ false) (unended : p .ended �
   pub whole : p .duration ≡ 65535 → eqb (p .offset + p .duration) (s .offset) ≡ continues isFull p s
   whole h = rw (unmarked, unended, eq-eqb (p .duration) 65535 h)
 
-module _ (t : Table) where
-  -- THE PLACES
+-- AN EVENT AND ONE SEGMENT MORE
 
-  pub all-held : length (t .segments) ≡ 128 → (n : ℕ) → n ≡ min (t .count) 128 → n ≡ length (held t)
-  all-held l n h = omega (arith, length-take (t .count) (t .segments))
-
-  -- from a place on, its segment comes first
-  front : (i : ℕ) → i < length (held t) → drop i (held t) ≡ segmentAt t i ∷ drop (i + 1) (held t)
-  front i h =
-      let below : i < t .count = omega (arith, length-take (t .count) (t .segments)) in
-      drop-cons (held t) i noSegment h ∙ rw (getD-take (t .count) (t .segments) i noSegment below, add-one)
-
--- LOOKING BACK
-
-cond-same : (b : Bool) {x y : Bool} → x ≡ false → y ≡ false → cond b x y ≡ false
-cond-same true e f = e
-cond-same false e f = f
-
--- a marked segment continues none
-marked-none : (l : List Segment) (s : Segment) → s .marked ≡ true → continuesNearest isFull l s ≡ false
-unfolding continuesNearest
-marked-none [] s h = refl
-marked-none (p ∷ ps) s h = cond-same (eqb (p .code) (s .code)) (rw h) (marked-none ps s h)
-
--- whether the segment at place j begins an event: what is before place i decides, until one of its code is met
-pub record Looking (t : Table) (j i : ℕ) (begins : Bool) : Type 0 where
-  pub within : i ≤ j
-  pub going : 0 < i → (begins ≡ true) × (continuesNearest isFull (earlier t i) (segmentAt t j) ≡ continuesEarlier t j)
-  pub done : i ≤ 0 → begins ≡ not (continuesEarlier t j)
-
-module _ (t : Table) (j : ℕ) where
-  -- nothing of its code was met before place i
-  unmet : (i : ℕ) → i ≤ j → continuesNearest isFull (earlier t i) (segmentAt t j) ≡ continuesEarlier t j → Looking t j i true
-  unfolding continuesNearest earlier
-  unmet i h e = record { within = h; going = λ z. (refl, e); done = λ z. (let y : i ≡ 0 = omega arith in ap not (rw y at e)) }
-
-  pub look-start : (i : ℕ) → i ≡ cond (segmentAt t j .marked) 0 j → Looking t j i true
-  unfolding continuesNearest earlier continuesEarlier
-  look-start i e = go (segmentAt t j .marked) refl e
-    where
-      go : (m : Bool) → segmentAt t j .marked ≡ m → i ≡ cond m 0 j → Looking t j i true
-      go true h e = unmet i (omega arith) (rw e (sym (marked-none (earlier t j) (segmentAt t j) h)))
-      go false h e = unmet i (omega arith) (rw e)
-
-  module _ (i : ℕ) (b : Bool) (w : Looking t j i b) where
-    pub look-end : i ≤ 0 → b ≡ not (continuesEarlier t j)
-    look-end = w .done
-
-    module _ (some : 0 < i) where
-      back : continuesNearest isFull (segmentAt t (i - 1) ∷ earlier t (i - 1)) (segmentAt t j) ≡ continuesEarlier t j
-      unfolding earlier
-      back = let z : i ≡ suc (i - 1) = omega arith in ap (λ (n : ℕ). continuesNearest isFull (earlier t n) (segmentAt t j)) (sym z) ∙ w .going some .1
-
-      pub look-found : segmentAt t (i - 1) .code ≡ segmentAt t j .code → (r : Bool) → r ≡ continues isFull (segmentAt t (i - 1)) (segmentAt t j) → Looking t j 0 (not r)
-      unfolding continuesNearest
-      look-found e r h = record {
-        within = omega arith;
-        going = λ z. absurd (omega arith);
-        done = λ z. ap not (h ∙ (rw (eq-eqb (segmentAt t (i - 1) .code) (segmentAt t j .code) e) at back));
-      }
-
-      pub look-pass : (segmentAt t (i - 1) .code ≡ segmentAt t j .code → ⊥) → Looking t j (i - 1) b
-      unfolding continuesNearest
-      look-pass e =
-          rw (w .going some .0)
-          (unmet (i - 1) (omega (arith, w .within)) (rw (ne-eqb (segmentAt t (i - 1) .code) (segmentAt t j .code) e) at back))
-
--- ONE EVENT
+pub one : (s : Segment)
+    → record { code = s .code; start = s .offset; length = s .duration; volume = s .volume; began = s .marked; ended = s .ended }
+    ≡ eventOf s []
+unfolding units loudness lastEnded
+one s = refl
 
 pub more : (v : Event) (s : Segment) (m : ℕ) → m ≡ min (v .volume) (s .volume)
-    → record { code = v .code; start = v .start; length = v .length + s .duration; volume = m; began = v .began; ended = s .ended } ≡ lengthened v s
+    → record { code = v .code; start = v .start; length = v .length + s .duration; volume = m; began = v .began; ended = s .ended }
+    ≡ lengthened v s
 more v s m e = rw e
 
 -- an event that segments continue, one after another
@@ -114,7 +51,14 @@ grown v (s ∷ ts) = grown (lengthened v s) ts
 
 grown-by : (v : Event) (s : Segment) (ts : List Segment)
     → grown v (s ∷ ts)
-    ≡ record { code = v .code; start = v .start; length = v .length + units s ts; volume = min (v .volume) (loudness s ts); began = v .began; ended = lastEnded s ts }
+    ≡ record {
+      code = v .code;
+      start = v .start;
+      length = v .length + units s ts;
+      volume = min (v .volume) (loudness s ts);
+      began = v .began;
+      ended = lastEnded s ts;
+    }
 unfolding units loudness lastEnded
 grown-by v s [] = refl
 grown-by v s (u ∷ us) =
@@ -128,149 +72,262 @@ unfolding units loudness lastEnded
 grown-alone s [] = refl
 grown-alone s (t ∷ ts) = grown-by (eventOf s []) t ts
 
-module _ (t : Table) (i : ℕ) where
-  pub event-start : (v : Event) → v ≡ eventOf (segmentAt t i) [] → grown v (continuing isFull (segmentAt t i) (drop (i + 1) (held t))) ≡ eventFrom t i
-  unfolding continuations eventFrom
-  event-start v e = rw e (grown-alone (segmentAt t i) (continuations t i))
+cond-same : (b : Bool) {x y : Bool} → x ≡ false → y ≡ false → cond b x y ≡ false
+cond-same true e f = e
+cond-same false e f = f
 
-  module _ (n : ℕ) (all : n ≡ length (held t)) (v : Event) (last : Segment) (j : ℕ) (inv : grown v (continuing isFull last (drop j (held t))) ≡ eventFrom t i) where
-    pub event-end : n ≤ j → v ≡ eventFrom t i
-    unfolding continuing
-    event-end h = rw (drop-of-length-le (held t) {i = j} (omega arith)) at inv
+-- a marked segment continues none
+marked-none : (l : List Segment) (s : Segment) → s .marked ≡ true → continuesNearest isFull l s ≡ false
+unfolding continuesNearest
+marked-none [] s h = refl
+marked-none (p ∷ ps) s h = cond-same (eqb (p .code) (s .code)) (rw h) (marked-none ps s h)
 
-    module _ (less : j < n) where
-      here : grown v (continuing isFull last (segmentAt t j ∷ drop (j + 1) (held t))) ≡ eventFrom t i
-      here = rw (front t j (omega arith)) at inv
+cond-not : {A : Type 0} (b : Bool) (x y : A) → cond b x y ≡ cond (not b) y x
+cond-not true x y = refl
+cond-not false x y = refl
 
-      pub event-pass : (last .code ≡ segmentAt t j .code → ⊥) → (w : Event) (s : Segment) → w ≡ v → s ≡ last
-          → grown w (continuing isFull s (drop (j + 1) (held t))) ≡ eventFrom t i
-      unfolding continuing
-      event-pass e w s f g = rw (f, g) (rw (ne-eqb (last .code) (segmentAt t j .code) e) at here)
+module _ (keys heard : List ℕ) where
+  -- THE PLACES
 
-      module _ (e : last .code ≡ segmentAt t j .code) (r : Bool) (test : r ≡ continues isFull last (segmentAt t j)) where
-        pub event-stop : not r ≡ true → v ≡ eventFrom t i
-        unfolding continuing
-        event-stop x = rw (eq-eqb (last .code) (segmentAt t j .code) e, sym test ∙ not-true r x) at here
+  pub in-ranges : (head : Head) → valid (tableOf head keys heard) ≡ true → InRanges keys heard (head .count)
+  in-ranges head v =
+      let p = tests-passed (tableOf head keys heard) v in
+      record { few = p .few; each = λ i h. valid-from keys heard (head .count) 0 (p .each) i (omega arith) (omega arith) }
 
-        pub event-more : not r ≡ false → (w u : Event) (s : Segment) → w ≡ u → u ≡ lengthened v (segmentAt t j) → s ≡ segmentAt t j
-            → grown w (continuing isFull s (drop (j + 1) (held t))) ≡ eventFrom t i
-        unfolding continuing
-        event-more x w u s f g h =
-            ap₂ (λ (y : Event) (z : Segment). grown y (continuing isFull z (drop (j + 1) (held t)))) (f ∙ g) h
-            ∙ (rw (eq-eqb (last .code) (segmentAt t j .code) e, sym test ∙ not-false r x) at here)
+  pub fewer : (n i : ℕ) → InRanges keys heard n → i < n → InRanges keys heard (i + 1)
+  fewer n i r h = record { few = omega (arith, r .few); each = λ j l. r .each j (omega arith) }
 
--- at most 65,535 units a segment
-module _ (v w : Event) (j : ℕ) (bound : v .length ≤ j * 65535) where
-  pub length-same : w ≡ v → w .length ≤ (j + 1) * 65535
-  length-same e = omega (arith, ap (λ (u : Event). u .length) e)
+  -- the segments from a place on
+  abbrev rest : ℕ → ℕ → List Segment
+  rest n i = segmentsFrom keys heard i (n - i)
 
-  pub length-more : (u : Event) → w ≡ u → u .length ≤ v .length + 65535 → w .length ≤ (j + 1) * 65535
-  length-more u e h = omega (arith, ap (λ (x : Event). x .length) e)
+  first : (n i : ℕ) → i < n → rest n i ≡ segmentAt keys heard i ∷ later keys heard n i
+  unfolding segmentsFrom
+  first n i h = let z : n - i ≡ suc (n - (i + 1)) = omega arith in rw (z, add-one i)
 
--- THE EVENTS BY NUMBER
+  none-left : (n i : ℕ) → n ≤ i → rest n i ≡ []
+  unfolding segmentsFrom
+  none-left n i h = let z : n - i ≡ 0 = omega arith in rw z
 
--- a walk to event k stands at place j: so many events begin before it, event k none of them
-pub record Walking (t : Table) (k j before : ℕ) : Type 0 where
-  pub within : before ≤ j
-  pub below : before ≤ k
-  pub reach : j ≤ length (held t)
-  pub count : before + length (eventsAfter t j) ≡ length (events t)
-  pub event : getD (eventsAfter t j) (k - before) noEvent ≡ getD (events t) k noEvent
+  -- LOOKING BACK
 
-module _ (t : Table) (k : ℕ) where
-  all-after : eventsAfter t 0 ≡ events t
-  unfolding earlier eventsAfter
-  all-after = refl
+  -- whether the segment at place i begins an event: those before place j decide, since none from there on has its code
+  pub record Looking (i j : ℕ) : Type 0 where
+    pub within : j ≤ i
+    pub same : not (continuesNearest isFull (earlier keys heard j) (segmentAt keys heard i)) ≡ begins keys heard i
 
-  pub walk-starts : Walking t k 0 0
-  walk-starts = record {
-    within = omega arith;
-    below = omega arith;
-    reach = omega arith;
-    count = omega (arith, ap length all-after);
-    event = let z : k - 0 ≡ k = omega arith in rw z (ap (λ (l : List Event). getD l k noEvent) all-after);
-  }
+  module _ (i : ℕ) where
+    pub look-marked : (s : Segment) → s ≡ segmentAt keys heard i → s .marked ≡ true → true ≡ begins keys heard i
+    unfolding begins
+    look-marked s e h = sym (ap not (marked-none (earlier keys heard i) (segmentAt keys heard i) (rw e at h)))
 
-  module _ (j before : ℕ) (w : Walking t k j before) (n : ℕ) (all : n ≡ length (held t)) where
-    none-left : n ≤ j → eventsAfter t j ≡ []
-    unfolding eventsFrom eventsAfter
-    none-left h = rw (drop-of-length-le (held t) {i = j} (omega arith))
+    pub look-starts : Looking i i
+    unfolding begins
+    look-starts = record { within = omega arith; same = refl }
 
-    pub walk-ends : n ≤ j → Reached t k n before
-    walk-ends h = record {
-      within = omega (arith, w .within, w .reach);
+    module _ (j : ℕ) (w : Looking i j) where
+      pub look-ends : j ≤ 0 → true ≡ begins keys heard i
+      unfolding continuesNearest earlier
+      look-ends h = let z : j ≡ 0 = omega arith in rw z at (w .same)
+
+      module _ (some : 0 < j) where
+        back : not (continuesNearest isFull (segmentAt keys heard (j - 1) ∷ earlier keys heard (j - 1)) (segmentAt keys heard i))
+            ≡ begins keys heard i
+        unfolding earlier
+        back =
+            let z : j ≡ suc (j - 1) = omega arith in
+            ap (λ (n : ℕ). not (continuesNearest isFull (earlier keys heard n) (segmentAt keys heard i))) (sym z) ∙ w .same
+
+        pub look-within : InRanges keys heard (i + 1) → InRanges keys heard (j - 1 + 1)
+        look-within r = fewer (i + 1) (j - 1) r (omega (arith, w .within))
+
+        pub look-passes : (getD keys (j - 1) 0 % 256 ≡ getD keys i 0 % 256 → ⊥) → Looking i (j - 1)
+        unfolding continuesNearest
+        look-passes e = record {
+          within = omega (arith, w .within);
+          same = rw (ne-eqb (getD keys (j - 1) 0 % 256) (getD keys i 0 % 256) e) at back;
+        }
+
+        pub look-met : getD keys (j - 1) 0 % 256 ≡ getD keys i 0 % 256 → (p s : Segment) → p ≡ segmentAt keys heard (j - 1)
+            → s ≡ segmentAt keys heard i → (r : Bool) → r ≡ continues isFull p s → not r ≡ begins keys heard i
+        unfolding continuesNearest
+        look-met e p s f g r h =
+            ap not (h ∙ ap₂ (continues isFull) f g)
+            ∙ (rw (eq-eqb (getD keys (j - 1) 0 % 256) (getD keys i 0 % 256) e) at back)
+
+  -- ONE EVENT
+
+  -- the event of place i, so far: what continues its last segment from place j on makes it whole
+  pub record Growing (n i j : ℕ) (v : Event) (last : Segment) : Type 0 where
+    pub reach : j ≤ n
+    pub code : last .code ≡ getD keys i 0 % 256
+    pub long : v .length ≤ j * 65535
+    pub event : grown v (continuing isFull last (rest n j)) ≡ eventFrom keys heard n i
+
+  module _ (n i : ℕ) where
+    pub event-starts : i < n → (s : Segment) → s ≡ segmentAt keys heard i → (v : Event) → v ≡ eventOf s [] → v .length ≤ 65535
+        → Growing n i (i + 1) v s
+    unfolding eventFrom
+    event-starts h s e v f l = record {
       reach = omega arith;
-      found = λ z. absurd (omega arith);
-      past = λ z. (omega (arith, w .count, ap length (none-left h)), rw (none-left h) at (sym (w .event)));
+      code = ap (λ (x : Segment). x .code) e;
+      long = omega arith;
+      event = rw (f, e) (grown-alone (segmentAt keys heard i) (continuing isFull (segmentAt keys heard i) (later keys heard n i)));
     }
 
-    module _ (less : j < n) (b : Bool) (look : b ≡ not (continuesEarlier t j)) where
-      by-test : eventsAfter t j ≡ cond (continuesEarlier t j) (eventsAfter t (j + 1)) (eventFrom t j ∷ eventsAfter t (j + 1))
-      unfolding earlier continuesEarlier continuations eventFrom eventsFrom eventsAfter
-      by-test = rw (add-one j, front t j (omega arith), add-one j)
+    module _ (j : ℕ) (v : Event) (last : Segment) (w : Growing n i j v last) where
+      pub event-ends : n ≤ j → v ≡ eventFrom keys heard n i
+      unfolding continuing
+      event-ends h = rw (none-left n j h) at (w .event)
 
-      pub walk-passes : b ≡ false → (m : ℕ) → m ≡ before → Walking t k (j + 1) m
-      walk-passes e m is =
-          let same : eventsAfter t j ≡ eventsAfter t (j + 1) = rw (not-false (continuesEarlier t j) (sym look ∙ e)) at by-test in
-          rw is (record { within = omega (arith, w .within); below = w .below; reach = omega arith; count = rw same at (w .count); event = rw same at (w .event) })
+      module _ (less : j < n) where
+        here : grown v (continuing isFull last (segmentAt keys heard j ∷ later keys heard n j)) ≡ eventFrom keys heard n i
+        here = rw (first n j less) at (w .event)
 
-      module _ (e : b ≡ true) where
-        begins : eventsAfter t j ≡ eventFrom t j ∷ eventsAfter t (j + 1)
-        begins = rw (not-true (continuesEarlier t j) (sym look ∙ e)) at by-test
+        pub event-passes : (v′ : Event) (last′ : Segment) → v′ ≡ v → last′ ≡ last → (getD keys j 0 % 256 ≡ getD keys i 0 % 256 → ⊥)
+            → Growing n i (j + 1) v′ last′
+        unfolding continuing
+        event-passes v′ last′ f g e = rw (f, g) (record {
+          reach = omega arith;
+          code = w .code;
+          long = omega (arith, w .long);
+          event = rw (ne-eqb (last .code) (getD keys j 0 % 256) (λ x. e (sym x ∙ w .code))) at here;
+        })
 
-        pub walk-found : before ≡ k → Reached t k j before
-        walk-found z =
-            let zero : k - before ≡ 0 = omega arith in
-            record {
-              within = w .within;
-              reach = w .reach;
-              found = λ y. (z, sym (rw (zero, begins) at (w .event)));
-              past = λ y. absurd (omega arith);
-            }
+        module _ (e : getD keys j 0 % 256 ≡ getD keys i 0 % 256) (s : Segment) (at-j : s ≡ segmentAt keys heard j)
+            (r : Bool) (test : r ≡ continues isFull last s) where
+          same : eqb (last .code) (getD keys j 0 % 256) ≡ true
+          same = eq-eqb (last .code) (getD keys j 0 % 256) (w .code ∙ sym e)
 
-        pub walk-on : (before ≡ k → ⊥) → (m : ℕ) → m ≡ before + 1 → Walking t k (j + 1) m
-        walk-on z m is =
-            let more : k - before ≡ suc (k - m) = omega (arith, w .below) in
-            record {
-              within = omega (arith, w .within);
-              below = omega (arith, w .below);
-              reach = omega arith;
-              count = omega (arith, w .count, ap length begins);
-              event = rw (more, begins) at (w .event);
-            }
+          tested : r ≡ continues isFull last (segmentAt keys heard j)
+          tested = test ∙ ap (continues isFull last) at-j
 
--- no event has the number 128
-pub all-walked : (t : Table) (place before : ℕ) → length (t .segments) ≡ 128 → Reached t 128 place before → before ≡ length (events t)
-all-walked t place before places w = go (ltb place (length (held t))) refl
-  where
-    go : (b : Bool) → ltb place (length (held t)) ≡ b → before ≡ length (events t)
-    go true e = let h = ltb-true place (length (held t)) e in absurd (omega (arith, w .found h .0, w .within, length-take (t .count) (t .segments)))
-    go false e = let h = ltb-false place (length (held t)) e in w .past (omega (arith, w .reach)) .0
+          pub event-stops : not r ≡ true → v ≡ eventFrom keys heard n i
+          unfolding continuing
+          event-stops x = rw (same, sym tested ∙ not-true r x) at here
 
-module _ (t : Table) (k place before : ℕ) (w : Reached t k place before) (n : ℕ) (all : n ≡ length (held t)) where
-  pub event-reached : place < n → (v : Event) → v ≡ eventFrom t place → v ≡ getD (events t) k noEvent
-  event-reached h v e = e ∙ sym (w .found (omega arith) .1)
+          pub event-grows : not r ≡ false → (u : Event) → u ≡ lengthened v s → u .length ≤ v .length + 65535
+              → (u′ : Event) (s′ : Segment) → u′ ≡ u → s′ ≡ s → Growing n i (j + 1) u′ s′
+          unfolding continuing
+          event-grows x u f l u′ s′ g h = rw (g, h) (record {
+            reach = omega arith;
+            code = ap (λ (y : Segment). y .code) at-j ∙ e;
+            long = omega (arith, w .long);
+            event = rw (f, at-j) (rw (same, sym tested ∙ not-false r x) at here);
+          })
 
-  pub event-none : n ≤ place → noEvent ≡ getD (events t) k noEvent
-  event-none h = sym (w .past (omega (arith, w .reach)) .1)
+  -- THE EVENTS BY NUMBER
+
+  -- those that begin at place i or later
+  unfoldable pub eventsAfter : ℕ → ℕ → List Event
+  eventsAfter n i = eventsFrom isFull (earlier keys heard i) (rest n i)
+
+  all-after : (n : ℕ) → eventsAfter n 0 ≡ eventsIn keys heard n
+  unfolding earlier eventsAfter
+  all-after n = let z : n - 0 ≡ n = omega arith in rw z
+
+  none-after : (n i : ℕ) → n ≤ i → eventsAfter n i ≡ []
+  unfolding eventsFrom eventsAfter
+  none-after n i h = rw (none-left n i h)
+
+  by-test : (n i : ℕ) → i < n
+      → eventsAfter n i ≡ cond (begins keys heard i) (eventFrom keys heard n i ∷ eventsAfter n (i + 1)) (eventsAfter n (i + 1))
+  unfolding earlier begins eventFrom eventsFrom eventsAfter
+  by-test n i h =
+      rw (add-one i, first n i h, add-one i)
+      (cond-not (continuesNearest isFull (earlier keys heard i) (segmentAt keys heard i)) _ _)
+
+  module _ (n i : ℕ) (h : i < n) (b : Bool) (is : b ≡ begins keys heard i) where
+    begun : b ≡ true → eventsAfter n i ≡ eventFrom keys heard n i ∷ eventsAfter n (i + 1)
+    begun e = rw (sym is ∙ e) at (by-test n i h)
+
+    passed : b ≡ false → eventsAfter n i ≡ eventsAfter n (i + 1)
+    passed e = rw (sym is ∙ e) at (by-test n i h)
+
+  -- `count` events begin before place i
+  pub record Counting (n i count : ℕ) : Type 0 where
+    pub reach : i ≤ n
+    pub few : count ≤ i
+    pub sum : count + length (eventsAfter n i) ≡ length (eventsIn keys heard n)
+
+  pub count-starts : (n : ℕ) → Counting n 0 0
+  count-starts n = record { reach = omega arith; few = omega arith; sum = omega (arith, ap length (all-after n)) }
+
+  module _ (n i count : ℕ) (w : Counting n i count) where
+    pub count-ends : n ≤ i → count ≡ length (eventsIn keys heard n)
+    count-ends h = omega (arith, w .sum, ap length (none-after n i h))
+
+    module _ (less : i < n) (b : Bool) (is : b ≡ begins keys heard i) (m : ℕ) where
+      pub count-more : b ≡ true → m ≡ count + 1 → Counting n (i + 1) m
+      count-more e f = record {
+        reach = omega arith;
+        few = omega (arith, w .few);
+        sum = omega (arith, w .sum, ap length (begun n i less b is e));
+      }
+
+      pub count-same : b ≡ false → m ≡ count → Counting n (i + 1) m
+      count-same e f = record {
+        reach = omega arith;
+        few = omega (arith, w .few);
+        sum = omega (arith, w .sum, ap length (passed n i less b is e));
+      }
+
+  -- event k begins at place i or later, and has the number `left` among the events that do
+  pub record Walking (n k i left : ℕ) : Type 0 where
+    pub less : i < n
+    pub some : left < length (eventsAfter n i)
+    pub event : getD (eventsAfter n i) left noEvent ≡ getD (eventsIn keys heard n) k noEvent
+
+  -- an event still to come begins at some place
+  walking : (n k i left : ℕ) → left < length (eventsAfter n i)
+      → getD (eventsAfter n i) left noEvent ≡ getD (eventsIn keys heard n) k noEvent → Walking n k i left
+  walking n k i left h e = record { less = go (ltb i n) refl; some = h; event = e }
+    where
+      go : (b : Bool) → ltb i n ≡ b → i < n
+      go true f = ltb-true i n f
+      go false f = absurd (omega (arith, ap length (none-after n i (ltb-false i n f))))
+
+  pub walk-starts : (n k : ℕ) → k < length (eventsIn keys heard n) → Walking n k 0 k
+  walk-starts n k h =
+      walking n k 0 k (omega (arith, ap length (all-after n))) (ap (λ (l : List Event). getD l k noEvent) (all-after n))
+
+  module _ (n k i left : ℕ) (w : Walking n k i left) (b : Bool) (is : b ≡ begins keys heard i) where
+    pub walk-passes : b ≡ false → Walking n k (i + 1) left
+    walk-passes e =
+        let same = passed n i (w .less) b is e in
+        walking n k (i + 1) left (rw same at (w .some)) (rw same at (w .event))
+
+    module _ (e : b ≡ true) where
+      pub walk-on : (left ≡ 0 → ⊥) → Walking n k (i + 1) (left - 1)
+      walk-on z =
+          let one : left ≡ suc (left - 1) = omega arith in
+          walking n k (i + 1) (left - 1) (omega (arith, w .some, ap length (begun n i (w .less) b is e)))
+          (rw (one, begun n i (w .less) b is e) at (w .event))
+
+      pub walk-found : left ≡ 0 → (v : Event) → v ≡ eventFrom keys heard n i → v ≡ getD (eventsIn keys heard n) k noEvent
+      walk-found z v f = f ∙ (rw (z, begun n i (w .less) b is e) at (w .event))
 
 -- THE EVENT AT A NUMBER, AND THE LIST CALL'S ANSWER
 
 module _ (t : Table) (ok : Bool) (test : ok ≡ valid t) where
+  pub passes-test : not ok ≡ false → valid t ≡ true
+  passes-test h = sym test ∙ not-false ok h
+
   module _ (k : ℕ) where
     pub fails-test : not ok ≡ true → refusedBy 16 noEvent ≡ eventAt t k
     fails-test h = rw (sym test ∙ not-true ok h)
 
     module _ (passed : not ok ≡ false) where
       pub number-zero : k ≡ 0 → refusedBy 13 noEvent ≡ eventAt t k
-      number-zero z = rw (sym test ∙ not-false ok passed, eq-eqb k 0 z)
+      number-zero z = rw (passes-test passed, eq-eqb k 0 z)
 
       module _ (some : k ≡ 0 → ⊥) (n : ℕ) (all : n ≡ length (events t)) where
         pub number-high : n < k → refusedBy 13 noEvent ≡ eventAt t k
-        number-high h = rw (sym test ∙ not-false ok passed, ne-eqb k 0 some, lt-ltb (length (events t)) k (rw all at h))
+        number-high h = rw (passes-test passed, ne-eqb k 0 some, lt-ltb (length (events t)) k (rw all at h))
 
         pub number-found : k ≤ n → (v : Event) → v ≡ getD (events t) (k - 1) noEvent → answered v ≡ eventAt t k
-        number-found h v e = ap answered e ∙ rw (sym test ∙ not-false ok passed, ne-eqb k 0 some, le-ltb (length (events t)) k (rw all at h))
+        number-found h v e =
+            ap answered e ∙ rw (passes-test passed, ne-eqb k 0 some, le-ltb (length (events t)) k (rw all at h))
 
   module _ (room : ℕ) where
     pub list-fails-test : not ok ≡ true → record { refusal = 16; events = 0 } ≡ answerFor t room
@@ -280,38 +337,37 @@ module _ (t : Table) (ok : Bool) (test : ok ≡ valid t) where
     module _ (passed : not ok ≡ false) (n : ℕ) (all : n ≡ length (events t)) where
       pub list-small : room < n → record { refusal = 15; events = 0 } ≡ answerFor t room
       unfolding answerFor
-      list-small h = rw (sym test ∙ not-false ok passed, lt-ltb room (length (events t)) (rw all at h))
+      list-small h = rw (passes-test passed, lt-ltb room (length (events t)) (rw all at h))
 
       pub list-fits : n ≤ room → record { refusal = 0; events = n } ≡ answerFor t room
       unfolding answerFor
-      list-fits h = rw (all, sym test ∙ not-false ok passed, le-ltb room (length (events t)) (rw all at h))
+      list-fits h = rw (all, passes-test passed, le-ltb room (length (events t)) (rw all at h))
 
 pub ruleset table-events = (
   needs,
-  length-mapped,
   short,
   whole,
-  all-held,
-  look-start,
-  look-end,
-  look-found,
-  look-pass,
+  one,
   more,
-  event-start,
-  event-end,
-  event-pass,
-  event-stop,
-  event-more,
-  length-same,
-  length-more,
+  in-ranges,
+  fewer,
+  look-marked,
+  look-starts,
+  look-ends,
+  look-passes,
+  look-met,
+  event-starts,
+  event-ends,
+  event-stops,
+  count-starts,
+  count-ends,
+  count-more,
+  count-same,
   walk-starts,
-  walk-ends,
   walk-passes,
-  walk-found,
   walk-on,
-  all-walked,
-  event-reached,
-  event-none,
+  walk-found,
+  passes-test,
   fails-test,
   number-zero,
   number-high,

@@ -1,33 +1,14 @@
--- The events of a table by the places of its segments: what the functions that go from place to place answer.
-use Prim.Native.Nat.{ℕ, zero, suc, _+_, _≤_, _<_, min}
+-- The events of two columns by the places of their segments: what the functions that go from place to place answer. They
+-- see the columns and how many places are held; a table's head plays no part.
+use Prim.Native.Nat.{ℕ, zero, suc, _+_, _-_, _≤_, _<_, min}
 use mathlib.Core.Path.{_≡_}
-use mathlib.Core.Bool.{Bool}
+use mathlib.Core.Bool.{Bool, true, not}
 use mathlib.Core.List.{List, [], _∷_}
-use lib.ListN.{length, getD, drop}
 use Rattle.model.specs.declared.Segment.{Segment}
-use Rattle.model.specs.declared.Table.{Table}
 use Rattle.model.specs.declared.Event.{Event}
 use Rattle.model.specs.Limits.{isFull}
-use Rattle.model.specs.Refusals.{noEvent}
-use Rattle.model.specs.Table.{noSegment, held}
-use Rattle.model.specs.Events.{eventOf, continuesNearest, continuing, eventsFrom}
-use Rattle.model.specs.List.{events}
-
-abbrev pub segmentAt : Table → ℕ → Segment
-segmentAt t i = getD (t .segments) i noSegment
-
--- the segments before place i, nearest first
-unfoldable pub earlier : Table → ℕ → List Segment
-earlier t zero = []
-earlier t (suc i) = segmentAt t i ∷ earlier t i
-
--- whether the segment at place i continues an earlier one
-unfoldable pub continuesEarlier : Table → ℕ → Bool
-continuesEarlier t i = continuesNearest isFull (earlier t i) (segmentAt t i)
-
--- the segments that continue the one at place i, one after another
-unfoldable pub continuations : Table → ℕ → List Segment
-continuations t i = continuing isFull (segmentAt t i) (drop (i + 1) (held t))
+use Rattle.model.specs.Table.{segmentAt, segmentsFrom, validSegment}
+use Rattle.model.specs.Events.{eventOf, continuesNearest, continuing, eventsOf}
 
 -- an event that one segment more continues
 abbrev pub lengthened : Event → Segment → Event
@@ -40,17 +21,29 @@ lengthened v s = record {
   ended = s .ended;
 }
 
--- the event that the segment at place i begins
-unfoldable pub eventFrom : Table → ℕ → Event
-eventFrom t i = eventOf (segmentAt t i) (continuations t i)
+module _ (keys heard : List ℕ) where
+  -- n places, at most 128, and the segment at each within its ranges
+  pub record InRanges (n : ℕ) : Type 0 where
+    pub few : n ≤ 128
+    pub each : (i : ℕ) → i < n → validSegment (segmentAt keys heard i) ≡ true
 
--- the events that begin at place i or later
-unfoldable pub eventsAfter : Table → ℕ → List Event
-eventsAfter t i = eventsFrom isFull (earlier t i) (drop i (held t))
+  -- the segments before place i, nearest first
+  unfoldable pub earlier : ℕ → List Segment
+  earlier zero = []
+  earlier (suc i) = segmentAt keys heard i ∷ earlier i
 
--- a walk over the places came to the one that begins event k, or past the last: so many events begin before it
-pub record Reached (t : Table) (k place before : ℕ) : Type 0 where
-  pub within : before ≤ place
-  pub reach : place ≤ length (held t)
-  pub found : place < length (held t) → (before ≡ k) × (getD (events t) k noEvent ≡ eventFrom t place)
-  pub past : place ≡ length (held t) → (before ≡ length (events t)) × (getD (events t) k noEvent ≡ noEvent)
+  -- the segment at place i begins an event if it continues no earlier one
+  unfoldable pub begins : ℕ → Bool
+  begins i = not (continuesNearest isFull (earlier i) (segmentAt keys heard i))
+
+  -- of n places, the segments after place i
+  abbrev pub later : ℕ → ℕ → List Segment
+  later n i = segmentsFrom keys heard (i + 1) (n - (i + 1))
+
+  -- the event that the segment at place i begins, among those of n places
+  unfoldable pub eventFrom : ℕ → ℕ → Event
+  eventFrom n i = eventOf (segmentAt keys heard i) (continuing isFull (segmentAt keys heard i) (later n i))
+
+  -- the events of n places
+  abbrev pub eventsIn : ℕ → List Event
+  eventsIn n = eventsOf (segmentsFrom keys heard 0 n)

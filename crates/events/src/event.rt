@@ -3,12 +3,11 @@ ghost use mathlib.Core.Path.{_≡_};
 ghost use mathlib.Core.List.{[]};
 ghost use Prim.Native.Nat.{_+_, _*_, _<_, _≤_, min};
 ghost use Rattle.model.specs.Events.{eventOf};
-ghost use Rattle.events.specs.Places.{lengthened, eventFrom};
+ghost use Rattle.events.specs.Places.{InRanges, lengthened, eventFrom};
 use super::segments::continues;
-use super::segments::number_held;
+use super::segments::segment_at;
 use model::Event;
 use model::Segment;
-use model::Table;
 
 // The event of one segment that nothing continues.
 fn alone(first: Segment) -> Event
@@ -49,26 +48,26 @@ fn lengthened(v: Event, next: Segment) -> Event
     }
 }
 
-// The event that the segment at place i begins.
-pub fn event_from(t: Table, i: usize) -> Event
-    requires { ⌜ i < min (t .count) 128 ⌝ }
-    ensures { λ r. ⌜ r ≡ eventFrom t i ⌝ }
+// The event that the segment at place i begins, among those of n places. Of a later segment only the key is read, unless it
+// has the code.
+pub fn event_from<'a>(keys: &'a [u64; 128], heard: &'a [u32; 128], n: usize, i: usize) -> Event
+    requires { ⌜ InRanges (now keys) (now heard) n ⌝ }
+    requires { ⌜ i < n ⌝ }
+    ensures { λ r. ⌜ r ≡ eventFrom (now (keys .entry)) (now (heard .entry)) n i ⌝ }
 {
-    let n = number_held(t.count);
-    let first = t.segments[i];
+    let code = keys[i] % 256;
+    let first = segment_at(keys, heard, i);
     let mut v = alone(first);
     let mut last = first;
-    let mut j = i + 1;
-    while j < n {
-        let next = t.segments[j];
-        if last.code == next.code {
+    for j in i + 1..n {
+        if keys[j] % 256 == code {
+            let next = segment_at(keys, heard, j);
             if !continues(last, next) {
                 return v;
             }
             v = lengthened(v, next);
             last = next;
         }
-        j += 1;
     }
     v
 }

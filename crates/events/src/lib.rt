@@ -1,32 +1,87 @@
-// The events of a receiving table: the event at a number, and the list of all of them.
+// The events of a receiving table whose columns are lent: the event at a number, and what the list call answers.
 ghost use mathlib.Core.Path.{_≡_};
-ghost use Rattle.model.specs.Refusals.{toldEvent};
-ghost use Rattle.model.specs.List.{eventAt};
+ghost use mathlib.Core.Bool.{true};
+ghost use Prim.Native.Nat.{_<_};
+ghost use lib.ListN.{length, getD};
+ghost use Rattle.model.specs.Refusals.{toldEvent, noEvent};
+ghost use Rattle.model.specs.Table.{tableOf, valid};
+ghost use Rattle.model.specs.List.{events, eventAt};
+ghost use Rattle.events.specs.Answer.{answerFor};
 
 mod event;
-pub mod list;
-mod number;
 mod segments;
 
+use event::event_from;
+use model::Event;
 use model::EventAnswer;
-use model::Table;
-use number::count_of;
-use number::event_of;
+use model::Head;
+use model::Listed;
+use segments::begins_at;
+use segments::count_of;
+
+// The event at number k, counted from 0, of a table that passes the tests: a walk to the segment that begins it.
+pub fn event_of<'a>(head: Head, keys: &'a [u64; 128], heard: &'a [u32; 128], k: usize) -> Event
+    requires { ⌜ valid (tableOf head (now keys) (now heard)) ≡ true ⌝ }
+    requires { ⌜ k < length (events (tableOf head (now keys) (now heard))) ⌝ }
+    ensures { λ r. ⌜ r ≡ getD (events (tableOf head (now (keys .entry)) (now (heard .entry)))) k noEvent ⌝ }
+{
+    let n = head.count;
+    let mut left = k;
+    let mut i = 0;
+    loop {
+        let place = i;
+        i += 1;
+        if begins_at(keys, heard, place) {
+            if left == 0 {
+                return event_from(keys, heard, n, place);
+            }
+            left -= 1;
+        }
+    }
+}
 
 // Tells the event at number k, counted from 1 by start, then code, or refuses with 16 or 13.
-pub fn event_at(t: Table, k: u32) -> EventAnswer
-    ensures { λ r. ⌜ toldEvent r ≡ eventAt t k ⌝ }
+pub fn event_at<'a>(head: Head, keys: &'a [u64; 128], heard: &'a [u32; 128], k: u32) -> EventAnswer
+    ensures { λ r. ⌜ toldEvent r ≡ eventAt (tableOf head (now (keys .entry)) (now (heard .entry))) k ⌝ }
 {
-    if !table::is_valid(t) {
+    if !table::is_valid(head, keys, heard) {
         return EventAnswer::Refused(model::INVALID_TABLE);
     }
     let number = k as usize;
     if number == 0 {
         return EventAnswer::Refused(model::NO_SUCH_NUMBER);
     }
-    let n = count_of(t);
+    let n = count_of(keys, heard, head.count);
     if n < number {
         return EventAnswer::Refused(model::NO_SUCH_NUMBER);
     }
-    EventAnswer::Found(event_of(t, number - 1))
+    EventAnswer::Found(event_of(head, keys, heard, number - 1))
+}
+
+// What the list call answers where `room` records are lent.
+pub fn answer_for<'a>(
+    head: Head,
+    keys: &'a [u64; 128],
+    heard: &'a [u32; 128],
+    room: usize,
+) -> Listed
+    ensures { λ r. ⌜ r ≡ answerFor (tableOf head (now (keys .entry)) (now (heard .entry))) room ⌝ }
+{
+    if !table::is_valid(head, keys, heard) {
+        return Listed {
+            refusal: model::INVALID_TABLE,
+            events: 0,
+        };
+    }
+    let n = count_of(keys, heard, head.count);
+    if room < n {
+        return Listed {
+            refusal: model::LIST_TOO_SMALL,
+            events: 0,
+        };
+    }
+    Listed {
+        refusal: 0,
+        events: n,
+    }
 }

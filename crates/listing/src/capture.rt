@@ -3,16 +3,17 @@ ghost use mathlib.Core.Path.{_≡_};
 ghost use mathlib.Core.Bool.{true};
 ghost use Prim.Native.Nat.{_+_, _-_, _≤_};
 ghost use lib.ListN.{length};
-ghost use Rattle.model.specs.Table.{valid};
+ghost use Rattle.model.specs.Table.{tableOf, valid};
 use framing::Frame;
 use framing::frame_at;
-use model::ReceiveAnswer;
-use model::Table;
-use receive_valid::receive_valid;
+use model::Head;
+use model::Received;
+use receive::receive_valid;
 
-// What has been received: the table, how many frames, how many of them were taken, and whether the last one was cut short.
+// What has been received: the head of the table whose columns are lent, how many frames, how many of them were taken, and
+// whether the last one was cut short.
 pub struct Capture {
-    pub table: Table,
+    pub head: Head,
     pub frames: u64,
     pub taken: u64,
     pub cut: bool,
@@ -20,7 +21,7 @@ pub struct Capture {
 
 // What has been received, and the place up to which the buffer was.
 struct Passed {
-    table: Table,
+    head: Head,
     frames: u64,
     taken: u64,
     at: usize,
@@ -34,20 +35,19 @@ fn buffer() -> [u8; 131072]
 }
 
 // 1 if a packet was taken, else 0.
-fn counted(a: ReceiveAnswer) -> u64 {
-    match a {
-        ReceiveAnswer::New => 1,
-        ReceiveAnswer::Known => 1,
-        ReceiveAnswer::Refused(_n) => 0,
+fn counted(a: Received) -> u64 {
+    if a.refusal == 0 {
+        return 1;
     }
+    0
 }
 
 // Receives the whole frames at the start of a buffer, up to the first one that is not.
-fn pass(p: Passed, s: &[u8]) -> Passed
-    requires { ⌜ valid (p .table) ≡ true ⌝ }
-    ensures { λ r. ⌜ (valid (r .table) ≡ true) × (r .at ≤ length (now (s .entry))) ⌝ }
+fn pass(p: Passed, keys: &mut [u64; 128], heard: &mut [u32; 128], s: &[u8]) -> Passed
+    requires { ⌜ valid (tableOf (p .head) (now keys) (now heard)) ≡ true ⌝ }
+    ensures { λ r. ⌜ (valid (tableOf (r .head) (now (keys .exit)) (now (heard .exit))) ≡ true) × (r .at ≤ length (now (s .entry))) ⌝ }
 {
-    let mut t = p.table;
+    let mut head = p.head;
     let mut frames = p.frames;
     let mut taken = p.taken;
     let mut at = 0usize;
@@ -55,22 +55,20 @@ fn pass(p: Passed, s: &[u8]) -> Passed
         let f = frame_at(s, at);
         let Frame::Whole { start, end } = f else {
             return Passed {
-                table: t,
+                head: head,
                 frames: frames,
                 taken: taken,
                 at: at,
             };
         };
-        let got = receive_valid(t, &s[start..end]);
-        let u = got.table;
-        t = u;
-        let a = got.answer;
+        let got = receive_valid(head, keys, heard, &s[start..end]);
+        head.count = got.count;
         frames = std::num::wrapping_add_u64(frames, 1);
-        taken = std::num::wrapping_add_u64(taken, counted(a));
+        taken = std::num::wrapping_add_u64(taken, counted(got));
         at = end;
     }
     Passed {
-        table: t,
+        head: head,
         frames: frames,
         taken: taken,
         at: at,
@@ -110,13 +108,13 @@ fn refill(file: i32, b: &mut [u8], from: usize) -> usize
 
 // Reads a capture to its end, and receives its frames. What is left in the buffer after a pass is a part of one frame, so there
 // is always room to read more.
-pub fn received(t: Table, file: i32) -> Capture
-    requires { ⌜ valid t ≡ true ⌝ }
+pub fn received(head: Head, keys: &mut [u64; 128], heard: &mut [u32; 128], file: i32) -> Capture
+    requires { ⌜ valid (tableOf head (now keys) (now heard)) ≡ true ⌝ }
 {
     let mut space = buffer();
     let b: &mut [u8] = &mut space;
     let mut p = Passed {
-        table: t,
+        head: head,
         frames: 0,
         taken: 0,
         at: 0,
@@ -129,16 +127,15 @@ pub fn received(t: Table, file: i32) -> Capture
             turns = 0;
         } else {
             let n = kept + got;
-            let q = pass(p, &b[0..n]);
-            p = q;
+            p = pass(p, keys, heard, &b[0..n]);
             let at = p.at;
             kept = keep(b, at, n);
             turns -= 1;
         }
     }
-    let u = p.table;
+    let after = p.head;
     Capture {
-        table: u,
+        head: after,
         frames: p.frames,
         taken: p.taken,
         cut: 0 < kept,

@@ -6,13 +6,17 @@ use framing::Session;
 use framing::session_of;
 use model::Table;
 
-// Lists what a table that passes the tests holds after a capture. They are made once here, and receiving keeps them.
+// Lists what a table holds after a capture. Its tests are made once, here, and receiving keeps them.
 fn list_into(t: Table, capture: i32) {
-    if !table::is_valid(t) {
+    let head = t.head;
+    let mut keys = t.keys;
+    let mut heard = t.heard;
+    if !table::is_valid(head, &keys, &heard) {
         print::bad_session();
         return;
     }
-    print::listing(capture::received(t, capture));
+    let c = capture::received(head, &mut keys, &mut heard, capture);
+    print::listing(c, &keys, &heard);
 }
 
 // Lists the events of a capture, both given as open files; a session that is bad in any way, or no file, is `session=bad`.

@@ -2,7 +2,7 @@
 use super::capture::Capture;
 use model::Event;
 use model::EventAnswer;
-use model::Table;
+use model::Head;
 
 pub fn bad_session() {
     io::write_all(libc::STDOUT_FILENO, b"session=bad\n");
@@ -25,10 +25,10 @@ fn event(v: Event) {
 }
 
 // The events one by one, until a number is refused; answers how many there are. A table has at most 128.
-fn events(t: Table) -> u32 {
+fn events<'a>(head: Head, keys: &'a [u64; 128], heard: &'a [u32; 128]) -> u32 {
     let mut k = 0u32;
     while k < 128 {
-        let a = events::event_at(t, k + 1);
+        let a = events::event_at(head, keys, heard, k + 1);
         let EventAnswer::Found(v) = a else {
             return k;
         };
@@ -38,8 +38,8 @@ fn events(t: Table) -> u32 {
     k
 }
 
-pub fn listing(c: Capture) {
-    let n = events(c.table);
+pub fn listing<'a>(c: Capture, keys: &'a [u64; 128], heard: &'a [u32; 128]) {
+    let n = events(c.head, keys, heard);
     line(b"events=", n as u64);
     line(b"taken=", c.taken);
     line(b"refused=", std::num::wrapping_sub_u64(c.frames, c.taken));

@@ -17,7 +17,7 @@ use Rattle.model.specs.Packet.{packetOf, ssrc}
 use Rattle.model.specs.Plan.{cut, reports, reportAt}
 use Rattle.model.specs.Segments.{Derived}
 use Rattle.model.specs.Table.{held, holds, noRoom, put}
-use Rattle.model.specs.Receive.{heardIn, receiveRefusal, receive}
+use Rattle.model.specs.Receive.{heardIn, receiveRefusal, receive, refuses}
 use Rattle.model.specs.Sizes.{Sent, planOf, segmentsInAll, Sizes, BytesFit, FitsTypes}
 use Rattle.model.specs.Demands.{arrivals, Handed, sent, stranger, bytesOf, Admitted, packets}
 use Rattle.model.proofs.Order.{_≺_, Alike, alike-sym, alike-trans, ≺-trans, ≺-alike, alike-≺, ≺-not-alike, Rising, rises}
@@ -84,8 +84,8 @@ module _ (t : Table) (es : List Sent) (sizes : Sizes t es) (fits : FitsTypes t e
 
   pub record Along (rs : List Segment) (u : Table) : Type 0 where
     pub reached : Reached t rs u
-    pub type : u .«payload_type» ≡ t .«payload_type»
-    pub source : u .ssrc ≡ t .ssrc
+    pub type : u .head .«payload_type» ≡ t .head .«payload_type»
+    pub source : u .head .ssrc ≡ t .head .ssrc
     pub told : (r : Segment) → Mem r rs → ToldOf r
 
   pub told-sent : (e : Sent) (k : ℕ) → Mem e es → 1 ≤ k → k ≤ length (reports (planOf t e)) → ToldOf (said t e k)
@@ -102,7 +102,7 @@ module _ (t : Table) (es : List Sent) (sizes : Sizes t es) (fits : FitsTypes t e
       (q .0, q .1, alike-trans (alike-sym (keeps-alike (h .2))) (record { offset = q .2 .offset; code = q .2 .code }))
 
   room-for : (rs : List Segment) (u : Table) → Along rs u → (r : Segment) → ToldOf r → noRoom u r ≡ false
-  room-for rs u a r k = go (eqb (u .count) 128) refl (holds r (held u)) refl
+  room-for rs u a r k = go (eqb (u .head .count) 128) refl (holds r (held u)) refl
     where
       d : Derived (r ∷ rs) (put r (held u))
       d = derived-put r rs (held u) (a .reached .derived)
@@ -113,12 +113,12 @@ module _ (t : Table) (es : List Sent) (sizes : Sizes t es) (fits : FitsTypes t e
       few : length (put r (held u)) ≤ length (allSent segmentSize t es)
       few = fewer (put r (held u)) (allSent segmentSize t es) (rises (put r (held u)) (d .rises)) (all-rising segmentSize t (omega arith) 0 es apart) (pairs-known d told)
 
-      long : length (held u) ≡ u .count
-      long = held-length u (a .reached .sound .places) (tests-passed u (a .reached .sound .passes) .few)
+      long : length (held u) ≡ u .head .count
+      long = held-length u
 
-      go : (b : Bool) → eqb (u .count) 128 ≡ b → (c : Bool) → holds r (held u) ≡ c → (b && not c) ≡ false
+      go : (b : Bool) → eqb (u .head .count) 128 ≡ b → (c : Bool) → holds r (held u) ≡ c → (b && not c) ≡ false
       go true e true f = refl
-      go true e false f = absurd (omega (arith, few, put-new r (held u) f, long, eqb-true (u .count) 128 e, length-all t es, sizes .few))
+      go true e false f = absurd (omega (arith, few, put-new r (held u) f, long, eqb-true (u .head .count) 128 e, length-all t es, sizes .few))
       go false e c f = refl
 
   module _ (rs : List Segment) (u : Table) (a : Along rs u) (e : Sent) (k : ℕ) (m : Mem e es) (low : 1 ≤ k) (high : k ≤ length (reports (planOf t e))) where
@@ -135,7 +135,7 @@ module _ (t : Table) (es : List Sent) (sizes : Sizes t es) (fits : FitsTypes t e
         let r = sent-in-range t e (sizes .ranges e m) k low high in
         let q = sent-report t e (sizes .ranges e m) k low high (fits .ssrc) in
         record {
-          passes = a .reached .sound .passes;
+          passes = a .reached .passes;
           header = packet-header (reportAt (planOf t e) k) r;
           type = ap (λ (x : Report). x .«payload_type») q ∙ sym (a .type);
           source = ap (λ (x : Report). x .ssrc) q ∙ sym (a .source);
@@ -159,12 +159,12 @@ module _ (t : Table) (es : List Sent) (sizes : Sizes t es) (fits : FitsTypes t e
         ∙ heard-as-said t e (sizes .ranges e m) k low high (fits .ssrc) (fits .origin) (sizes .near e m) in
         record {
           reached = rw h at (step-taken t u (bytesOf t (sent e k)) rs (a .reached) sent-fits (taken-not-refused u (bytesOf t (sent e k)) n));
-          type = ap (λ (x : Table). x .«payload_type») (takes u (bytesOf t (sent e k)) n) ∙ a .type;
-          source = ap (λ (x : Table). x .ssrc) (takes u (bytesOf t (sent e k)) n) ∙ a .source;
+          type = ap (λ (x : Table). x .head .«payload_type») (takes u (bytesOf t (sent e k)) n) ∙ a .type;
+          source = ap (λ (x : Table). x .head .ssrc) (takes u (bytesOf t (sent e k)) n) ∙ a .source;
           told = λ r i. ⊎-elim (λ (q : r ≡ said t e k). rw q (told-sent e k m low high)) (λ j. a .told r j) (List·Memᴰ·cases-cons i);
         }
 
-  along-stranger : (rs : List Segment) (u : Table) (b : List ℕ) → Along rs u → receive u b .answer .refused ≡ true → Along rs (receive u b .table)
+  along-stranger : (rs : List Segment) (u : Table) (b : List ℕ) → Along rs u → refuses (receive u b .answer) ≡ true → Along rs (receive u b .table)
   along-stranger rs u b a e = rw (refused-leaves u b e) a
 
   -- WHAT ARRIVES

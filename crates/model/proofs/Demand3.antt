@@ -16,7 +16,7 @@ use Rattle.model.specs.Limits.{segmentSize, isFull}
 use Rattle.model.specs.Refusals.{none, outOfRange}
 use Rattle.model.specs.Plan.{fullSegments, cut, reports, planInRange}
 use Rattle.model.specs.Segments.{rising, segmentsOf}
-use Rattle.model.specs.Table.{noSegment, emptyTable, opened, held, allValid, valid}
+use Rattle.model.specs.Table.{segmentsFrom, emptyTable, opened, held, allValid, valid}
 use Rattle.model.specs.Receive.{heardIn}
 use Rattle.model.specs.Events.{eventsOf}
 use Rattle.model.specs.Sizes.{Sent, planOf, Sizes, BytesFit}
@@ -45,11 +45,11 @@ use Rattle.model.proofs.Plans.{Says, sayings-first}
 use Rattle.model.proofs.Recovered.{segmentsSent, allSent, of-all, in-all, all-rising, events-of-all, Witness, recovered}
 use Rattle.model.proofs.Sends.{plan-ranges, sayingAt, report-is, said, said-says, said-before, sent-bytes, sent-later, heard-as-said}
 use Rattle.model.proofs.Arrives.{apart, ToldOf, Along, told-sent, sent-fits, Outcome, outcome}
-use Rattle.model.proofs.Basics.{Mem, mem-map, map-mem}
+use Rattle.model.proofs.Basics.{noSegment, Mem, mem-map, map-mem}
 
 module _ (t : Table) (es : List Sent) (hs : List Handed) (d : Delivered t es hs) where
   along : Along t es (d .sizes) (d .fits) [] t
-  along = record { reached = start t (d .empty) (d .fits .places); type = refl; source = refl; told = λ r m. absurd (List·Memᴰ·not-nil m) }
+  along = record { reached = start t (d .empty); type = refl; source = refl; told = λ r m. absurd (List·Memᴰ·not-nil m) }
 
   what-arrives : Outcome t es (d .sizes) (d .fits) hs t
   what-arrives = outcome t es (d .sizes) (d .fits) hs [] t along (d .admitted)
@@ -60,7 +60,7 @@ module _ (t : Table) (es : List Sent) (hs : List Handed) (d : Delivered t es hs)
       rw (q .5) (sent-fits t es (d .sizes) (d .fits) [] t along (q .0) (q .1) (q .2) (q .3) (q .4))
 
   pub final : Reached t (reportsTaken t (packets t hs)) (tableAfter t (packets t hs))
-  final = filled t (packets t hs) (d .empty) (d .fits .places) arrivals-fit
+  final = filled t (packets t hs) (d .empty) arrivals-fit
 
   heard-sent : (e : Sent) (k : ℕ) → Mem e es → 1 ≤ k → k ≤ length (reports (planOf t e)) → heardIn t (bytesOf t (sent e k)) ≡ said t e k
   heard-sent e k m low high =
@@ -151,12 +151,12 @@ module _ (t : Table) (es : List Sent) (hs : List Handed) (d : Delivered t es hs)
   events-after = ap eventsOf held-after ∙ events-of-all segmentSize t isFull refl 0 es (apart t es (d .sizes) (d .fits)) []
 
 pub demand-3 : Demand-3
-demand-3 t es hs d = lists-events (tableAfter t (packets t hs)) (final t es hs d .sound .passes) (map asListed es) (events-after t es hs d)
+demand-3 t es hs d = lists-events (tableAfter t (packets t hs)) (final t es hs d .passes) (map asListed es) (events-after t es hs d)
 
 -- THE COROLLARY
 
 -- the reports taken follow from the arrivals and the origin
-same-reports : (t u : Table) (ps qs : List (List ℕ)) → t .origin ≡ u .origin → arrivals t ps ≡ arrivals u qs → reportsTaken t ps ≡ reportsTaken u qs
+same-reports : (t u : Table) (ps qs : List (List ℕ)) → t .head .origin ≡ u .head .origin → arrivals t ps ≡ arrivals u qs → reportsTaken t ps ≡ reportsTaken u qs
 same-reports t u ps qs o e = λ i. map (λ bs. heard-from u t bs o i) (e i)
 
 pub demand-3-corollary : Demand-3-corollary
@@ -182,7 +182,7 @@ opened-then payloadType ssrc origin e = go (ltb 127 payloadType) refl e
     go false q e = (ltb-false 127 payloadType q, refl)
 
 pub opened-empty : (payloadType ssrc origin : ℕ) → opened payloadType ssrc origin .refusal ≡ none → Empty (opened payloadType ssrc origin .table)
-unfolding valid rising allValid
+unfolding valid rising allValid segmentsFrom
 opened-empty payloadType ssrc origin e =
     let k = opened-then payloadType ssrc origin e in
     rw (k .1) (record { empty = refl; passes = le-leb payloadType 127 (k .0) })
@@ -196,7 +196,7 @@ module _ (payloadType ssrc origin : ℕ) (accepted : opened payloadType ssrc ori
   demand-3-opened s o q sizes admitted needed = demand-3 table es hs (record {
     empty = opened-empty payloadType ssrc origin accepted;
     sizes = sizes;
-    fits = rw (opened-then payloadType ssrc origin accepted .1) (record { places = refl; ssrc = s; origin = o; sequences = q; bytes = λ p m. absurd (List·Memᴰ·not-nil m) });
+    fits = rw (opened-then payloadType ssrc origin accepted .1) (record { ssrc = s; origin = o; sequences = q; bytes = λ p m. absurd (List·Memᴰ·not-nil m) });
     admitted = admitted;
     needed = needed;
   })

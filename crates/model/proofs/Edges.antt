@@ -1,5 +1,6 @@
 -- More worked examples, computed from the definitions: what no theorem speaks of in a packet's form, the order of the
--- refusals, and segments of two codes between one another. Each row is a number or a list, and what it must be.
+-- refusals, what a call does to the columns, and segments of two codes between one another. Beside each row stands what it
+-- must be.
 use Prim.Native.Nat.{ℕ, _+_}
 use mathlib.Core.Path.{_≡_, refl}
 use mathlib.Core.Bool.{Bool, true, false}
@@ -9,11 +10,12 @@ use Rattle.model.specs.declared.Report.{Report}
 use Rattle.model.specs.declared.Segment.{Segment}
 use Rattle.model.specs.declared.Event.{Event}
 use Rattle.model.specs.declared.Table.{Table}
+use Rattle.model.specs.declared.Received.{Received}
 use Rattle.model.specs.Refusals.{Told, answered, refusedBy, noReport}
 use Rattle.model.specs.Packet.{afterHeader, payload, headerRefusal, payloadRefusal, read, packetOf}
 use Rattle.model.specs.Plan.{segment}
 use Rattle.model.specs.Segments.{rising}
-use Rattle.model.specs.Table.{opened, emptyTable, allValid, valid, holds}
+use Rattle.model.specs.Table.{segmentsFrom, opened, emptyTable, allValid, valid, holds, put}
 use Rattle.model.specs.Receive.{heardIn, receiveRefusal, receive}
 use Rattle.model.specs.Events.{units, loudness, lastEnded, continuesNearest, continuing, eventsFrom, eventsOf}
 
@@ -98,9 +100,36 @@ calls =
     ∷ ((emptyTable 128 7 16, []), 16)  -- 16 before 1
     ∷ []
 
-pub calls-answer : map (λ row. receive (row .0 .0) (row .0 .1) .answer .number) calls ≡ map (λ row. row .1) calls
-unfolding packetOf receive receiveRefusal heardIn valid rising allValid holds headerRefusal afterHeader payload payloadRefusal
+pub calls-answer : map (λ row. receive (row .0 .0) (row .0 .1) .answer .refusal) calls ≡ map (λ row. row .1) calls
+unfolding packetOf receive receiveRefusal heardIn valid rising allValid segmentsFrom holds headerRefusal afterHeader payload payloadRefusal
 calls-answer = refl
+
+-- THE COLUMNS
+
+-- three places, of which the first holds offset 100, code 5, duration 400, volume 10
+abbrev one-held : Table
+one-held = record {
+  head = record { «payload_type» = 101; ssrc = 7; origin = 16; count = 1 };
+  keys = 0x6405 ∷ 99 ∷ 98 ∷ [];
+  heard = 0x28_0190 ∷ 97 ∷ 96 ∷ [];
+}
+
+-- the answer, and the columns after it: M is bit 17 of what was heard
+abbrev columns : List (List ℕ × (Received × (List ℕ × List ℕ)))
+columns =
+    -- a new segment moves the one held up, and the place above stays
+    (at 16, (record { refusal = 0; «is_new» = true; count = 2 }, (5 ∷ 0x6405 ∷ 98 ∷ [], 0x2A_0190 ∷ 0x28_0190 ∷ 96 ∷ [])))
+    ∷ (at 117, (record { refusal = 0; «is_new» = true; count = 2 }, (0x6405 ∷ 0x6505 ∷ 98 ∷ [], 0x28_0190 ∷ 0x2A_0190 ∷ 96 ∷ [])))
+    -- a known one
+    ∷ (at 116, (record { refusal = 0; «is_new» = false; count = 1 }, (0x6405 ∷ 99 ∷ 98 ∷ [], 0x2A_0190 ∷ 97 ∷ 96 ∷ [])))
+    -- a refusal leaves all places
+    ∷ (at 15, (record { refusal = 10; «is_new» = false; count = 1 }, (0x6405 ∷ 99 ∷ 98 ∷ [], 0x28_0190 ∷ 97 ∷ 96 ∷ [])))
+    ∷ []
+
+pub columns-after : map (λ row. (receive one-held (row .0) .answer, (receive one-held (row .0) .table .keys, receive one-held (row .0) .table .heard))) columns
+    ≡ map (λ row. row .1) columns
+unfolding packetOf receive receiveRefusal heardIn valid rising allValid segmentsFrom holds put headerRefusal afterHeader payload payloadRefusal
+columns-after = refl
 
 -- EVENTS
 

@@ -26,8 +26,8 @@ use Rattle.model.specs.declared.Segment.{Segment}
 use Rattle.model.specs.declared.Event.{Event}
 use Rattle.model.specs.declared.Table.{Table}
 use Rattle.model.specs.Segments.{Derived}
-use Rattle.model.specs.Table.{valid, held, validSegment, taking}
-use Rattle.model.specs.Receive.{heardIn, receive}
+use Rattle.model.specs.Table.{segmentsFrom, valid, held, validSegment, taking}
+use Rattle.model.specs.Receive.{heardIn, receive, refuses}
 use Rattle.model.specs.Events.{eventsOf}
 use Rattle.model.specs.List.{events}
 use Rattle.model.specs.Sizes.{BytesFit, FitsTypes}
@@ -36,7 +36,7 @@ use Rattle.model.proofs.Order.{rises, rises-if}
 use Rattle.model.proofs.Segments.{derived-put, derived-unique, is-segmentsOf}
 use Rattle.model.proofs.Keeping.{attained-more}
 use Rattle.model.proofs.Packets.{read-in-range}
-use Rattle.model.proofs.Tables.{Sound, valid-if, held-taking, room, taking-sound}
+use Rattle.model.proofs.Tables.{valid-if, held-taking, room, taking-valid}
 use Rattle.model.proofs.Receives.{Taken, taken-then, refused-leaves, taken-unless, takes}
 use Rattle.model.proofs.Basics.{Mem}
 
@@ -48,11 +48,11 @@ heard-valid t bs f k =
     let q = read-in-range bs f (k .payload) in
     valid-if (heardIn t bs) (record { offset = k .near; code = q .0; some = q .1; duration = q .2; volume = q .3 })
 
-pub taken-sound : (t : Table) (bs : List ℕ) → Sound t → BytesFit bs → Taken t bs → Sound (taking t (heardIn t bs))
-taken-sound t bs s f k = taking-sound t (heardIn t bs) s (heard-valid t bs f k) (room t (heardIn t bs) s (k .room))
+pub taken-valid : (t : Table) (bs : List ℕ) → valid t ≡ true → BytesFit bs → Taken t bs → valid (taking t (heardIn t bs)) ≡ true
+taken-valid t bs s f k = taking-valid t (heardIn t bs) s (heard-valid t bs f k) (room t (heardIn t bs) s (k .room))
 
 -- what is heard depends on the table's origin alone
-pub heard-from : (t u : Table) (bs : List ℕ) → u .origin ≡ t .origin → heardIn u bs ≡ heardIn t bs
+pub heard-from : (t u : Table) (bs : List ℕ) → u .head .origin ≡ t .head .origin → heardIn u bs ≡ heardIn t bs
 unfolding heardIn
 heard-from t u bs e = rw e
 
@@ -66,8 +66,8 @@ derived-none = record { rises = rises-if [] tt; kept = λ r m. absurd (List·Mem
 
 -- the table reached from t, which holds what is derived from rs
 pub record Reached (t : Table) (rs : List Segment) (u : Table) : Type 0 where
-  pub sound : Sound u
-  pub origin : u .origin ≡ t .origin
+  pub passes : valid u ≡ true
+  pub origin : u .head .origin ≡ t .head .origin
   pub derived : Derived rs (held u)
 
 -- a report in front of the others or behind them: the same set
@@ -81,27 +81,28 @@ back a b r x m =
     ⊎-elim (λ e. Memᴰ·append-right a (List·Memᴰ·head e))
     (λ k. ⊎-elim (λ n. Memᴰ·append-left (r ∷ b) n) (λ n. Memᴰ·append-right a (List·Memᴰ·tail n)) (List·Memᴰ·append-cases a k)) (List·Memᴰ·cases-cons m)
 
-pub step-refused : (t u : Table) (p : List ℕ) (rs : List Segment) → Reached t rs u → receive u p .answer .refused ≡ true → Reached t rs (receive u p .table)
+pub step-refused : (t u : Table) (p : List ℕ) (rs : List Segment) → Reached t rs u → refuses (receive u p .answer) ≡ true → Reached t rs (receive u p .table)
 step-refused t u p rs k e = rw (refused-leaves u p e) k
 
-derived-taking : (u : Table) (r : Segment) (rs : List Segment) → Derived rs (held u) → Derived (r ∷ rs) (held (taking u r))
-derived-taking u r rs d = rw (held-taking u r) (derived-put r rs (held u) d)
+derived-taking : (u : Table) (r : Segment) (rs : List Segment) → valid u ≡ true → validSegment r ≡ true → Derived rs (held u) → Derived (r ∷ rs) (held (taking u r))
+derived-taking u r rs s v d = rw (held-taking u r s v) (derived-put r rs (held u) d)
 
-pub step-taken : (t u : Table) (p : List ℕ) (rs : List Segment) → Reached t rs u → BytesFit p → receive u p .answer .refused ≡ false
+pub step-taken : (t u : Table) (p : List ℕ) (rs : List Segment) → Reached t rs u → BytesFit p → refuses (receive u p .answer) ≡ false
     → Reached t (heardIn t p ∷ rs) (receive u p .table)
 step-taken t u p rs k f e =
     let n = taken-unless u p e in
+    let w = taken-then u p n in
     rw (takes u p n) (record {
-      sound = taken-sound u p (k .sound) f (taken-then u p n);
+      passes = taken-valid u p (k .passes) f w;
       origin = k .origin;
-      derived = rw (← (heard-from t u p (k .origin))) (derived-taking u (heardIn u p) rs (k .derived));
+      derived = rw (← (heard-from t u p (k .origin))) (derived-taking u (heardIn u p) rs (k .passes) (heard-valid u p f w) (k .derived));
     })
 
-pub arrivals-refused : (u : Table) (p : List ℕ) (ps : List (List ℕ)) → receive u p .answer .refused ≡ true → arrivals u (p ∷ ps) ≡ arrivals (receive u p .table) ps
+pub arrivals-refused : (u : Table) (p : List ℕ) (ps : List (List ℕ)) → refuses (receive u p .answer) ≡ true → arrivals u (p ∷ ps) ≡ arrivals (receive u p .table) ps
 unfolding arrivals
 arrivals-refused u p ps e = rw e
 
-pub arrivals-taken : (u : Table) (p : List ℕ) (ps : List (List ℕ)) → receive u p .answer .refused ≡ false → arrivals u (p ∷ ps) ≡ p ∷ arrivals (receive u p .table) ps
+pub arrivals-taken : (u : Table) (p : List ℕ) (ps : List (List ℕ)) → refuses (receive u p .answer) ≡ false → arrivals u (p ∷ ps) ≡ p ∷ arrivals (receive u p .table) ps
 unfolding arrivals
 arrivals-taken u p ps e = rw e
 
@@ -109,7 +110,7 @@ pub run-reaches : (t u : Table) (ps : List (List ℕ)) (rs : List Segment) → R
     → Reached t (map (heardIn t) (arrivals u ps) ++ rs) (tableAfter u ps)
 unfolding tableAfter arrivals
 run-reaches t u [] rs k f = k
-run-reaches t u (p ∷ ps) rs k f = go (receive u p .answer .refused) refl f (run-reaches t (receive u p .table) ps)
+run-reaches t u (p ∷ ps) rs k f = go (refuses (receive u p .answer)) refl f (run-reaches t (receive u p .table) ps)
   where
     more : List (List ℕ)
     more = arrivals (receive u p .table) ps
@@ -117,25 +118,26 @@ run-reaches t u (p ∷ ps) rs k f = go (receive u p .answer .refused) refl f (ru
     last : Table
     last = tableAfter (receive u p .table) ps
 
-    go : (b : Bool) → receive u p .answer .refused ≡ b → ((q : List ℕ) → Mem q (cond b more (p ∷ more)) → BytesFit q)
+    go : (b : Bool) → refuses (receive u p .answer) ≡ b → ((q : List ℕ) → Mem q (cond b more (p ∷ more)) → BytesFit q)
         → ((rs : List Segment) → Reached t rs (receive u p .table) → ((q : List ℕ) → Mem q more → BytesFit q) → Reached t (map (heardIn t) more ++ rs) last)
         → Reached t (map (heardIn t) (cond b more (p ∷ more)) ++ rs) last
     go true e f ih = ih rs (step-refused t u p rs k e) f
     go false e f ih =
         let w = ih (heardIn t p ∷ rs) (step-taken t u p rs k (f p (List·Memᴰ·head refl)) e) (λ q m. f q (List·Memᴰ·tail m)) in
         record {
-          sound = w .sound;
+          passes = w .passes;
           origin = w .origin;
           derived = derived-same (across (map (heardIn t) more) rs (heardIn t p)) (back (map (heardIn t) more) rs (heardIn t p)) (w .derived);
         }
 
 -- an empty table has taken nothing
-pub start : (t : Table) → Empty t → length (t .segments) ≡ 128 → Reached t [] t
-start t e l = record { sound = record { passes = e .passes; places = l }; origin = refl; derived = rw (e .empty) derived-none }
+pub start : (t : Table) → Empty t → Reached t [] t
+unfolding segmentsFrom
+start t e = record { passes = e .passes; origin = refl; derived = rw (e .empty) derived-none }
 
-pub filled : (t : Table) (ps : List (List ℕ)) → Empty t → length (t .segments) ≡ 128 → ((p : List ℕ) → Mem p (arrivals t ps) → BytesFit p)
+pub filled : (t : Table) (ps : List (List ℕ)) → Empty t → ((p : List ℕ) → Mem p (arrivals t ps) → BytesFit p)
     → Reached t (reportsTaken t ps) (tableAfter t ps)
-filled t ps e l f = rw append-nil at (run-reaches t t ps [] (start t e l) f)
+filled t ps e f = rw append-nil at (run-reaches t t ps [] (start t e) f)
 
 -- THE LIST
 
@@ -149,20 +151,20 @@ lists-events t v vs e = subst (Lists t) e (record {
 handed-over : (t : Table) (ps : List (List ℕ)) (p : List ℕ) → Mem p (arrivals t ps) → Mem p ps
 unfolding arrivals
 handed-over t [] p m = m
-handed-over t (q ∷ ps) p m = go (receive t q .answer .refused) m (handed-over (receive t q .table) ps p)
+handed-over t (q ∷ ps) p m = go (refuses (receive t q .answer)) m (handed-over (receive t q .table) ps p)
   where
     go : (b : Bool) → Mem p (cond b (arrivals (receive t q .table) ps) (q ∷ arrivals (receive t q .table) ps)) → (Mem p (arrivals (receive t q .table) ps) → Mem p ps) → Mem p (q ∷ ps)
     go true m ih = List·Memᴰ·tail (ih m)
     go false m ih = ⊎-elim (λ e. List·Memᴰ·head e) (λ n. List·Memᴰ·tail (ih n)) (List·Memᴰ·cases-cons m)
 
 reached : (t : Table) (ps : List (List ℕ)) → Empty t → FitsTypes t [] ps → Reached t (reportsTaken t ps) (tableAfter t ps)
-reached t ps e f = filled t ps e (f .places) (λ p m. f .bytes p (handed-over t ps p m))
+reached t ps e f = filled t ps e (λ p m. f .bytes p (handed-over t ps p m))
 
 pub demand-2 : Demand-2
 demand-2 t ps e f =
     let k = reached t ps e f in
     let q = is-segmentsOf (k .derived) in
-    record { segments = q; derived = k .derived; lists = lists-events (tableAfter t ps) (k .sound .passes) _ (ap eventsOf q) }
+    record { segments = q; derived = k .derived; lists = lists-events (tableAfter t ps) (k .passes) _ (ap eventsOf q) }
 
 pub demand-2-any-order : Demand-2-any-order
 demand-2-any-order t u ps qs e e′ f f′ w w′ = derived-unique w w′ (reached t ps e f .derived) (reached u qs e′ f′ .derived)

@@ -15,7 +15,6 @@ use Rattle.model.specs.Limits.{segmentSize, isCode}
 use Rattle.model.specs.Refusals.{noReport}
 use Rattle.model.specs.Packet.{reportIn, packetOf, reportInRange, ssrc}
 use Rattle.model.specs.Plan.{fullSegments, cutFrom, cut, sayings, onWire, reports, reportAt, planInRange, writePlanned}
-use Rattle.model.specs.Table.{noSegment}
 use Rattle.model.specs.Receive.{offset, heardFrom, heardIn}
 use Rattle.model.specs.Sizes.{Sent, end, planOf, ReportFits}
 use Rattle.model.specs.Demands.{sent, bytesOf}
@@ -23,7 +22,7 @@ use Rattle.model.proofs.Packets.{packet-report}
 use Rattle.model.proofs.Cuts.{cut-place, cut-within, cut-units, later, cut-later}
 use Rattle.model.proofs.Plans.{Says, sayings-say, length-wire, wire-at, mem-at}
 use Rattle.model.proofs.Recovered.{segmentsSent}
-use Rattle.model.proofs.Basics.{Mem, mem-map, and-then, and-both}
+use Rattle.model.proofs.Basics.{noSegment, Mem, mem-map, and-then, and-both}
 
 -- the ranges of a plan, one by one
 pub record PlanRanges (p : Plan) : Type 0 where
@@ -137,15 +136,15 @@ module _ (t : Table) (e : Sent) (range : planInRange (planOf t e) ≡ true) (k :
   pub sent-in-range : reportInRange (reportAt (planOf t e) k) ≡ true
   sent-in-range = report-in-range (planOf t e) k low high (plan-ranges (planOf t e) range)
 
-  module _ (fits : t .ssrc < 0x1_0000_0000) where
+  module _ (fits : t .head .ssrc < 0x1_0000_0000) where
     pub sent-report : reportIn (packetOf (reportAt (planOf t e) k)) ≡ onWire (planOf t e) (k - 1) (sayingAt (planOf t e) k)
     sent-report = packet-report (reportAt (planOf t e) k) (report-fits (planOf t e) k low high fits) sent-in-range ∙ report-is (planOf t e) k low high
 
     -- from the table's origin it is heard as it was said
-    pub heard-as-said : t .origin < 0x1_0000_0000 → end e < 0x8000_0000 → heardIn t (packetOf (reportAt (planOf t e) k)) ≡ said t e k
+    pub heard-as-said : t .head .origin < 0x1_0000_0000 → end e < 0x8000_0000 → heardIn t (packetOf (reportAt (planOf t e) k)) ≡ said t e k
     unfolding heardIn
     heard-as-said small near =
         let s = sayingAt (planOf t e) k in
-        let q : offset (t .origin) (((t .origin + e .start) % 0x1_0000_0000 + s .offset) % 0x1_0000_0000) ≡ e .start + s .offset = omega (arith, said-before) in
-        ap (heardFrom (t .origin)) sent-report
+        let q : offset (t .head .origin) (((t .head .origin + e .start) % 0x1_0000_0000 + s .offset) % 0x1_0000_0000) ≡ e .start + s .offset = omega (arith, said-before) in
+        ap (heardFrom (t .head .origin)) sent-report
         ∙ (λ i. record { offset = q i; code = s .code; duration = s .duration; volume = s .volume; ended = s .ended; marked = s .marked })

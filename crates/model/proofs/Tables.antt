@@ -1,22 +1,25 @@
 -- What one report does to a table: the segments held are those with the report put in, a table that passes the tests
--- passes them afterwards, and its 128 places stay 128.
-use Prim.Native.Nat.{suc, _<_, _≤_}
+-- passes them afterwards.
+use Prim.Native.Nat.{ℕ, zero, suc, _+_, _<_, _≤_}
 use mathlib.Core.Path.{_≡_, refl, sym, ap, _∙_}
 use mathlib.Core.Bool.{Bool, true, false, not, cond, _&&_, _||_, false≢true}
-use mathlib.Core.List.{List, [], _∷_, List·Memᴰ·head, List·Memᴰ·tail}
+use mathlib.Core.List.{List, [], _∷_, map, List·Memᴰ·head, List·Memᴰ·tail}
+use mathlib.Core.Logic.{⊎-elim}
+use native.Mathlib.Nat.{eq-or-lt-of-le}
+use native.Mathlib.Numerals.{add-one}
 use native.Mathlib.Omega.{arith}
 use lib.Dec.{leb, eqb}
-use lib.ListN.{length, drop, length-append, length-take, length-drop}
-use lib.Seq.{take-append-seam}
+use lib.ListN.{length, getD, drop, length-map, List·getD-append}
 use borrow.Author.Tests.{ltb-true, leb-true, eqb-false, lt-ltb, le-leb}
 use Rattle.model.specs.declared.Segment.{Segment}
 use Rattle.model.specs.declared.Table.{Table}
 use Rattle.model.specs.Limits.{isCode}
-use Rattle.model.specs.Segments.{before, samePair, merge}
-use Rattle.model.specs.Table.{held, validSegment, allValid, valid, holds, noRoom, put, taking}
+use Rattle.model.specs.Segments.{before, samePair, rising, merge}
+use Rattle.model.specs.Table.{keyOf, heardOf, segmentAt, segmentsFrom, held, place, storing, validSegment, allValid, valid, holds, noRoom, put, taking}
 use Rattle.model.proofs.Order.{Alike, Compared, compared, ≺-not-alike, same-then, below-cons, Rising, rises, rises-if}
 use Rattle.model.proofs.Segments.{put-rising}
-use Rattle.model.proofs.Basics.{Mem, and-then, and-both}
+use Rattle.model.proofs.Numbers.{segment-back}
+use Rattle.model.proofs.Basics.{noSegment, Mem, and-then, and-both}
 
 or-false-then : (a b : Bool) → (a || b) ≡ false → (a ≡ false) × (b ≡ false)
 or-false-then true b e = absurd (false≢true (sym e))
@@ -45,8 +48,31 @@ valid-if s v =
 
 -- WHAT IS HELD
 
-pub held-taking : (t : Table) (r : Segment) → held (taking t r) ≡ put r (held t)
-held-taking t r = take-append-seam (put r (held t)) _
+module _ (keys heard : List ℕ) where
+  pub length-from : (i n : ℕ) → length (segmentsFrom keys heard i n) ≡ n
+  unfolding segmentsFrom
+  length-from i zero = refl
+  length-from i (suc n) = ap suc (length-from (suc i) n)
+
+  -- segments that stand at places i, i + 1, .. are those from place i on
+  from-places : (l : List Segment) (i : ℕ) → ((k j : ℕ) → k ≡ i + j → j < length l → segmentAt keys heard k ≡ getD l j noSegment)
+      → segmentsFrom keys heard i (length l) ≡ l
+  unfolding segmentsFrom
+  from-places [] i h = refl
+  from-places (s ∷ l) i h = λ x. h i zero (omega arith) (omega arith) x ∷ from-places l (suc i) (λ k j e b. h k (suc j) (omega arith) (omega arith)) x
+
+pub held-length : (t : Table) → length (held t) ≡ t .head .count
+held-length t = length-from (t .keys) (t .heard) 0 (t .head .count)
+
+getD-mapped : {A B : Type 0} (f : A → B) (l : List A) (i : ℕ) (d : A) → getD (map f l) i (f d) ≡ f (getD l i d)
+getD-mapped f [] i d = refl
+getD-mapped f (a ∷ l) zero d = refl
+getD-mapped f (a ∷ l) (suc i) d = getD-mapped f l i d
+
+-- a column that was stored has the segments' values
+in-column : (f : Segment → ℕ) (l : List Segment) (column : List ℕ) (i : ℕ) → i < length l → getD (place (map f l) column) i (f noSegment) ≡ f (getD l i noSegment)
+in-column f l column i h =
+    List·getD-append (map f l) (drop (length (map f l)) column) (f noSegment) i (omega (arith, length-map l f)) ∙ getD-mapped f l i noSegment
 
 pub holds-then : (r : Segment) (l : List Segment) → holds r l ≡ true → (s : Segment) × Mem s l × Alike r s
 unfolding holds
@@ -80,9 +106,6 @@ put-known r (s ∷ ts) g h = go (before r s) (samePair r s) (compared r s) h (pu
     go false true c e ih = refl
     go false false c e ih = ap suc (ih e)
 
-pub held-length : (t : Table) → length (t .segments) ≡ 128 → t .count ≤ 128 → length (held t) ≡ t .count
-held-length t l c = length-take (t .count) (t .segments) ∙ omega arith
-
 -- THE TESTS STAY PASSED
 
 merge-valid : (r s : Segment) → validSegment r ≡ true → validSegment s ≡ true → validSegment (merge r s) ≡ true
@@ -104,17 +127,52 @@ put-valid r (s ∷ ts) p h = go (before r s) (samePair r s) (put-valid r ts p (k
     go false true ih = and-both (merge-valid r s p (k .0)) (k .1)
     go false false ih = and-both (k .0) ih
 
--- a table that passes the tests, with its 128 places
-pub record Sound (t : Table) : Type 0 where
-  pub passes : valid t ≡ true
-  pub places : length (t .segments) ≡ 128
+valid-at : (l : List Segment) → allValid l ≡ true → (i : ℕ) → i < length l → ValidSegment (getD l i noSegment)
+unfolding allValid
+valid-at [] v i h = absurd (omega arith)
+valid-at (s ∷ ts) v zero h = valid-then s (and-then (validSegment s) (allValid ts) v .0)
+valid-at (s ∷ ts) v (suc i) h = valid-at ts (and-then (validSegment s) (allValid ts) v .1) i (omega arith)
+
+-- the segments at places are within their ranges exactly if each is
+module _ (keys heard : List ℕ) where
+  pub valid-from : (n i : ℕ) → allValid (segmentsFrom keys heard i n) ≡ true → (k : ℕ) → i ≤ k → k < i + n
+      → validSegment (segmentAt keys heard k) ≡ true
+  unfolding segmentsFrom allValid
+  valid-from zero i v k a b = absurd (omega arith)
+  valid-from (suc n) i v k a b =
+      let q = and-then (validSegment (segmentAt keys heard i)) (allValid (segmentsFrom keys heard (suc i) n)) v in
+      ⊎-elim (λ e. rw (← e) (q .0)) (λ l. valid-from n (suc i) (q .1) k (omega arith) (omega arith)) (eq-or-lt-of-le a)
+
+  pub all-valid-from : (n i : ℕ) → ((k : ℕ) → i ≤ k → k < i + n → validSegment (segmentAt keys heard k) ≡ true)
+      → allValid (segmentsFrom keys heard i n) ≡ true
+  unfolding segmentsFrom allValid
+  all-valid-from zero i f = refl
+  all-valid-from (suc n) i f = and-both (f i (omega arith) (omega arith)) (all-valid-from n (suc i) (λ k a b. f k (omega arith) (omega arith)))
+
+  pub rising-from : (n i : ℕ) → ((k : ℕ) → i ≤ k → k + 1 < i + n → before (segmentAt keys heard k) (segmentAt keys heard (k + 1)) ≡ true)
+      → rising (segmentsFrom keys heard i n) ≡ true
+  unfolding segmentsFrom rising
+  rising-from zero i f = refl
+  rising-from (suc zero) i f = refl
+  rising-from (suc (suc n)) i f =
+      and-both (rw (add-one i) at (f i (omega arith) (omega arith))) (rising-from (suc n) (suc i) (λ k a b. f k (omega arith) (omega arith)))
+
+-- a table that stores segments within their ranges holds them
+pub held-storing : (l : List Segment) (t : Table) → allValid l ≡ true → held (storing l t) ≡ l
+held-storing l t v = from-places (storing l t .keys) (storing l t .heard) l 0 (λ k i e h. let q : k ≡ i = omega arith in rw q (stands i h))
+  where
+    stands : (i : ℕ) → i < length l → segmentAt (storing l t .keys) (storing l t .heard) i ≡ getD l i noSegment
+    stands i h =
+        let w = valid-at l v i h in
+        rw (in-column keyOf l (t .keys) i h, in-column heardOf l (t .heard) i h)
+        (segment-back (getD l i noSegment) (omega (arith, leb-true (getD l i noSegment .code) 15 (w .code))) (omega (arith, w .duration)))
 
 -- the tests, one by one
 pub record Passed (t : Table) : Type 0 where
-  pub few : t .count ≤ 128
+  pub few : t .head .count ≤ 128
   pub rises : Rising (held t)
   pub each : allValid (held t) ≡ true
-  pub type : leb (t .«payload_type») 127 ≡ true
+  pub type : leb (t .head .«payload_type») 127 ≡ true
 
 pub tests-passed : (t : Table) → valid t ≡ true → Passed t
 unfolding valid
@@ -126,33 +184,33 @@ tests-passed t v =
 
 pub passes-if : (t : Table) → Passed t → valid t ≡ true
 unfolding valid
-passes-if t p = and-both (le-leb (t .count) 128 (p .few)) (and-both (rises-if (held t) (p .rises)) (and-both (p .each) (p .type)))
+passes-if t p = and-both (le-leb (t .head .count) 128 (p .few)) (and-both (rises-if (held t) (p .rises)) (and-both (p .each) (p .type)))
+
+pub held-taking : (t : Table) (r : Segment) → valid t ≡ true → validSegment r ≡ true → held (taking t r) ≡ put r (held t)
+held-taking t r s v = held-storing (put r (held t)) t (put-valid r (held t) v (tests-passed t s .each))
 
 -- room for the report: fewer than 128 are held, or its pair is one of them
-pub room : (t : Table) (r : Segment) → Sound t → noRoom t r ≡ false → length (put r (held t)) ≤ 128
-room t r s h = go (holds r (held t)) refl (eqb (t .count) 128) refl h
+pub room : (t : Table) (r : Segment) → valid t ≡ true → noRoom t r ≡ false → length (put r (held t)) ≤ 128
+room t r s h = go (holds r (held t)) refl (eqb (t .head .count) 128) refl h
   where
     p : Passed t
-    p = tests-passed t (s .passes)
+    p = tests-passed t s
 
-    long : length (held t) ≡ t .count
-    long = held-length t (s .places) (p .few)
+    long : length (held t) ≡ t .head .count
+    long = held-length t
 
-    go : (b : Bool) → holds r (held t) ≡ b → (c : Bool) → eqb (t .count) 128 ≡ c → (c && not b) ≡ false → length (put r (held t)) ≤ 128
+    go : (b : Bool) → holds r (held t) ≡ b → (c : Bool) → eqb (t .head .count) 128 ≡ c → (c && not b) ≡ false → length (put r (held t)) ≤ 128
     go true e c f h = omega (arith, put-known r (held t) (p .rises) e, long, p .few)
     go false e true f h = absurd (false≢true (sym h))
-    go false e false f h = omega (arith, put-new r (held t) e, long, p .few, eqb-false (t .count) 128 f)
+    go false e false f h = omega (arith, put-new r (held t) e, long, p .few, eqb-false (t .head .count) 128 f)
 
-pub taking-sound : (t : Table) (r : Segment) → Sound t → validSegment r ≡ true → length (put r (held t)) ≤ 128 → Sound (taking t r)
-taking-sound t r s v h = record {
-  passes = passes-if (taking t r) (record {
-    few = h;
-    rises = rw (held-taking t r) (put-rising r (held t) (p .rises));
-    each = rw (held-taking t r) (put-valid r (held t) v (p .each));
-    type = p .type;
-  });
-  places = length-append (put r (held t)) (drop (length (put r (held t))) (t .segments)) ∙ omega (arith, length-drop (length (put r (held t))) (t .segments), s .places);
-}
+pub taking-valid : (t : Table) (r : Segment) → valid t ≡ true → validSegment r ≡ true → length (put r (held t)) ≤ 128 → valid (taking t r) ≡ true
+taking-valid t r s v h = passes-if (taking t r) (record {
+  few = h;
+  rises = rw (held-taking t r s v) (put-rising r (held t) (p .rises));
+  each = rw (held-taking t r s v) (put-valid r (held t) v (p .each));
+  type = p .type;
+})
   where
     p : Passed t
-    p = tests-passed t (s .passes)
+    p = tests-passed t s

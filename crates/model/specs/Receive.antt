@@ -7,7 +7,8 @@ use lib.Dec.{leb, eqb}
 use Rattle.model.specs.declared.Report.{Report}
 use Rattle.model.specs.declared.Segment.{Segment}
 use Rattle.model.specs.declared.Table.{Table}
-use Rattle.model.specs.Refusals.{otherPayloadType, otherSsrc, offsetTooLarge, tableFull, invalidTable, none, _if_else_, _orElse_, Told, telling}
+use Rattle.model.specs.declared.Received.{Received}
+use Rattle.model.specs.Refusals.{otherPayloadType, otherSsrc, offsetTooLarge, tableFull, invalidTable, none, _if_else_, _orElse_}
 use Rattle.model.specs.Packet.{headerRefusal, payloadRefusal, payload, payloadType, ssrc, reportIn}
 use Rattle.model.specs.Table.{valid, held, holds, noRoom, taking}
 
@@ -27,27 +28,42 @@ heardFrom origin r = record {
 }
 
 unfoldable pub heardIn : Table → List ℕ → Segment
-heardIn t bs = heardFrom (t .origin) (reportIn bs)
+heardIn t bs = heardFrom (t .head .origin) (reportIn bs)
 
 unfoldable pub receiveRefusal : Table → List ℕ → ℕ
 receiveRefusal t bs =
     invalidTable if not (valid t) else
     headerRefusal bs orElse
-    otherPayloadType if not (eqb (payloadType bs) (t .«payload_type»)) else
-    otherSsrc if not (eqb (ssrc bs) (t .ssrc)) else
+    otherPayloadType if not (eqb (payloadType bs) (t .head .«payload_type»)) else
+    otherSsrc if not (eqb (ssrc bs) (t .head .ssrc)) else
     payloadRefusal (payload bs) orElse
     offsetTooLarge if leb 0x8000_0000 (heardIn t bs .offset) else
     tableFull if noRoom t (heardIn t bs) else
     none
 
--- what the call tells (whether the segment is new), and the table after it
+-- what the call answers, and the table after it
 pub record Receiving : Type 0 where
-  pub answer : Told Bool
+  pub answer : Received
   pub table : Table
 
--- under a refusal the table comes back equal
-unfoldable pub receive : Table → List ℕ → Receiving
-receive t bs = record {
-  answer = telling (receiveRefusal t bs) false (not (holds (heardIn t bs) (held t)));
-  table = cond (eqb (receiveRefusal t bs) none) (taking t (heardIn t bs)) t;
+-- a refusal returns its number: nothing is new, and as many segments are held as before
+abbrev pub refusedWith : ℕ → ℕ → Received
+refusedWith n count = record { refusal = n; «is_new» = false; count = count }
+
+-- and the table comes back equal
+abbrev pub refusing : ℕ → Table → Receiving
+refusing n t = record { answer = refusedWith n (t .head .count); table = t }
+
+-- the answer to a report taken says whether its segment is new, and how many are held now
+abbrev pub taken : Table → Segment → Receiving
+taken t r = record {
+  answer = record { refusal = none; «is_new» = not (holds r (held t)); count = taking t r .head .count };
+  table = taking t r;
 }
+
+unfoldable pub receive : Table → List ℕ → Receiving
+receive t bs = cond (eqb (receiveRefusal t bs) none) (taken t (heardIn t bs)) (refusing (receiveRefusal t bs) t)
+
+-- does an answer refuse?
+abbrev pub refuses : Received → Bool
+refuses a = not (eqb (a .refusal) none)

@@ -26,10 +26,10 @@ end e = e .start + e .length
 -- (origin + start) modulo 2^32.
 abbrev pub planOf : Table → Sent → Plan
 planOf t e = record {
-  «payload_type» = t .«payload_type»;
-  ssrc = t .ssrc;
+  «payload_type» = t .head .«payload_type»;
+  ssrc = t .head .ssrc;
   sequence = e .sequence;
-  start = (t .origin + e .start) % 0x1_0000_0000;
+  start = (t .head .origin + e .start) % 0x1_0000_0000;
   code = e .code;
   volume = e .volume;
   length = e .length;
@@ -58,7 +58,7 @@ pub record Sizes (t : Table) (es : List Sent) : Type 0 where
   pub few : segmentsInAll t es ≤ 128
 
 -- WHAT THE MACHINE'S TYPES SAY
--- Bytes below 256, numbers within the widths of their fields, a table's 128 places: the records here do not know these.
+-- Bytes below 256, numbers within the widths of their fields: the records here do not know these.
 -- They are the only hypotheses of the demands beyond 01's.
 
 abbrev pub BytesFit : List ℕ → Type 0
@@ -70,8 +70,7 @@ pub record ReportFits (r : Report) : Type 0 where
   pub ssrc : r .ssrc < 0x1_0000_0000
 
 pub record FitsTypes (t : Table) (es : List Sent) (packets : List (List ℕ)) : Type 0 where
-  pub places : length (t .segments) ≡ 128
-  pub ssrc : t .ssrc < 0x1_0000_0000
-  pub origin : t .origin < 0x1_0000_0000
+  pub ssrc : t .head .ssrc < 0x1_0000_0000
+  pub origin : t .head .origin < 0x1_0000_0000
   pub sequences : (e : Sent) → List·Memᴰ e es → e .sequence < 65536
   pub bytes : (p : List ℕ) → List·Memᴰ p packets → BytesFit p

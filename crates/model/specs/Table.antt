@@ -1,31 +1,28 @@
 -- The receiving table: its opening, its tests, and what one report does to it (01, "The receiving table", and the tests
--- under "Numbers handed back when something is refused"). The sizes 128 and 2^31 are 01's own.
-use Prim.Native.Nat.{ℕ}
+-- under "Numbers handed back when something is refused"). The sizes 128 and 2^31 are 01's own. How a segment is kept in two
+-- numbers is ours; whatever comes after WHAT A TABLE HOLDS speaks of the segments alone.
+use Prim.Native.Nat.{ℕ, zero, suc, _+_, _*_, _/_, _%_}
 use mathlib.Core.Bool.{Bool, true, false, not, cond, _&&_, _||_}
-use mathlib.Core.List.{List, [], _∷_, _++_}
+use mathlib.Core.List.{List, [], _∷_, _++_, map}
 use lib.Dec.{ltb, leb, eqb}
-use lib.ListN.{length, take, drop, replicate}
+use lib.ListN.{length, getD, drop, replicate}
 use Rattle.model.specs.declared.Segment.{Segment}
+use Rattle.model.specs.declared.Head.{Head}
 use Rattle.model.specs.declared.Table.{Table}
 use Rattle.model.specs.declared.Opened.{Opened}
 use Rattle.model.specs.Limits.{isCode}
 use Rattle.model.specs.Refusals.{outOfRange, none}
+use Rattle.model.specs.Packet.{bit}
 use Rattle.model.specs.Segments.{before, samePair, rising, merge}
 
 -- OPENING
 
--- a place that holds no segment
-abbrev pub noSegment : Segment
-noSegment = record { offset = 0; code = 0; duration = 0; volume = 0; ended = false; marked = false }
-
 -- no segments, and zeros in all places
 abbrev pub emptyTable : ℕ → ℕ → ℕ → Table
 emptyTable payloadType ssrc origin = record {
-  «payload_type» = payloadType;
-  ssrc = ssrc;
-  origin = origin;
-  count = 0;
-  segments = replicate 128 noSegment;
+  head = record { «payload_type» = payloadType; ssrc = ssrc; origin = origin; count = 0 };
+  keys = replicate 128 0;
+  heard = replicate 128 0;
 }
 
 -- a refused open returns an empty table of zeros
@@ -35,11 +32,69 @@ opened payloadType ssrc origin =
     (record { table = emptyTable 0 0 0; refusal = outOfRange })
     (record { table = emptyTable payloadType ssrc origin; refusal = none })
 
--- THE TESTS
+-- A SEGMENT IN TWO NUMBERS
+-- The key orders segments: by offset, then code. The other number is what was heard.
+--
+--      63                          8 7        0         31           18 17 16 15             0
+--     +-----------------------------+----------+       +---------------+--+--+----------------+
+--     |           offset            |   code   |       |    volume     |M |E |    duration    |
+--     +-----------------------------+----------+       +---------------+--+--+----------------+
+--
+-- What stands on top has no upper bound, so every two numbers are those of exactly one segment, and no bit is passed
+-- over: that one is within its ranges is tested on the segment. There and back: proofs/Numbers.antt.
+
+abbrev pub keyOf : Segment → ℕ
+keyOf s = s .offset * 256 + s .code
+
+abbrev pub heardOf : Segment → ℕ
+heardOf s = s .duration + 0x1_0000 * (bit (s .ended) + 2 * (bit (s .marked) + 2 * s .volume))
+
+abbrev pub segmentOf : ℕ → ℕ → Segment
+segmentOf key heard = record {
+  offset = key / 256;
+  code = key % 256;
+  duration = heard % 0x1_0000;
+  volume = heard / 0x4_0000;
+  ended = eqb (heard / 0x1_0000 % 2) 1;
+  marked = eqb (heard / 0x2_0000 % 2) 1;
+}
+
+-- WHAT A TABLE HOLDS
+
+-- the table of a head and of two columns that are lent beside it
+abbrev pub tableOf : Head → List ℕ → List ℕ → Table
+tableOf h keys heard = record { head = h; keys = keys; heard = heard }
+
+-- a head that counts n segments
+abbrev pub holding : ℕ → Head → Head
+holding n h = record { «payload_type» = h .«payload_type»; ssrc = h .ssrc; origin = h .origin; count = n }
+
+-- the segment at place i of two columns
+abbrev pub segmentAt : List ℕ → List ℕ → ℕ → Segment
+segmentAt keys heard i = segmentOf (getD keys i 0) (getD heard i 0)
+
+-- the segments at n places, from place i on
+unfoldable pub segmentsFrom : List ℕ → List ℕ → ℕ → ℕ → List Segment
+segmentsFrom keys heard i zero = []
+segmentsFrom keys heard i (suc n) = segmentAt keys heard i ∷ segmentsFrom keys heard (suc i) n
 
 -- the segments held: the first `count` places
 abbrev pub held : Table → List Segment
-held t = take (t .count) (t .segments)
+held t = segmentsFrom (t .keys) (t .heard) 0 (t .head .count)
+
+-- the first places of a column have these numbers, and the places above them stay as they are
+abbrev pub place : List ℕ → List ℕ → List ℕ
+place numbers column = numbers ++ drop (length numbers) column
+
+-- the table with these segments in its first places
+abbrev pub storing : List Segment → Table → Table
+storing l t = record {
+  head = holding (length l) (t .head);
+  keys = place (map keyOf l) (t .keys);
+  heard = place (map heardOf l) (t .heard);
+}
+
+-- THE TESTS
 
 -- offset below 2^31, code 0 to 15, duration 1 to 65,535, volume 0 to 63
 abbrev pub validSegment : Segment → Bool
@@ -53,7 +108,7 @@ allValid (s ∷ ts) = validSegment s && allValid ts
 
 -- at most 128 segments, strictly rising by offset then code, each within its ranges, and a payload type up to 127
 unfoldable pub valid : Table → Bool
-valid t = leb (t .count) 128 && (rising (held t) && (allValid (held t) && leb (t .«payload_type») 127))
+valid t = leb (t .head .count) 128 && (rising (held t) && (allValid (held t) && leb (t .head .«payload_type») 127))
 
 -- ONE REPORT
 
@@ -64,22 +119,12 @@ holds r (s ∷ ts) = samePair r s || holds r ts
 
 -- 128 segments held and this pair is none of them
 abbrev pub noRoom : Table → Segment → Bool
-noRoom t r = eqb (t .count) 128 && not (holds r (held t))
+noRoom t r = eqb (t .head .count) 128 && not (holds r (held t))
 
--- a known segment keeps the report too; a new one stands at its place in the order
+-- a known segment keeps the report too; a new one stands at its place in the order, and later ones move up by one place
 unfoldable pub put : Segment → List Segment → List Segment
 put r [] = r ∷ []
 put r (s ∷ ts) = cond (before r s) (r ∷ s ∷ ts) (cond (samePair r s) (merge r s ∷ ts) (s ∷ put r ts))
 
--- later segments move up by one place, and places above the number held stay as they are
-abbrev pub place : List Segment → List Segment → List Segment
-place segments places = segments ++ drop (length segments) places
-
 abbrev pub taking : Table → Segment → Table
-taking t r = record {
-  «payload_type» = t .«payload_type»;
-  ssrc = t .ssrc;
-  origin = t .origin;
-  count = length (put r (held t));
-  segments = place (put r (held t)) (t .segments);
-}
+taking t r = storing (put r (held t)) t

@@ -40,14 +40,22 @@ pub struct Segment {
     pub marked: bool,
 }
 
-// The receiving table: the first `count` places hold segments, by offset, then code.
+// What a table was opened with, and how many segments it holds.
 #[repr(C)]
-pub struct Table {
+pub struct Head {
     pub payload_type: u8,
     pub ssrc: u32,
     pub origin: u32,
     pub count: usize,
-    pub segments: [Segment; 128],
+}
+
+// The receiving table: the first `count` places of its two columns hold segments, by offset, then code. A segment is kept in
+// two numbers, its key and what was heard of it (specs/Table.antt draws them).
+#[repr(C)]
+pub struct Table {
+    pub head: Head,
+    pub keys: [u64; 128],
+    pub heard: [u32; 128],
 }
 
 // One event of the list. `code` is the key, `start` an offset; `began`: the first segment was marked;
@@ -80,13 +88,6 @@ pub enum CountAnswer {
     Refused(u8),
 }
 
-// What the table made of a packet.
-pub enum ReceiveAnswer {
-    New,
-    Known,
-    Refused(u8),
-}
-
 // The event at one number.
 pub enum EventAnswer {
     Found(Event),
@@ -100,10 +101,13 @@ pub struct Opened {
     pub refusal: u8,
 }
 
-// The table after a receiving call, and what the call answers.
+// What a receiving call answers beside the columns lent to it: refusal 0 and whether the segment is new, or the refusal's
+// number; and how many segments are held after it. Why the refusal has 64 bits stands in docs/DECISIONS.md.
+#[repr(C)]
 pub struct Received {
-    pub table: Table,
-    pub answer: ReceiveAnswer,
+    pub refusal: u64,
+    pub is_new: bool,
+    pub count: usize,
 }
 
 // What the list call answers beside the lent records: refusal 0 and the number of events, or the refusal's number and 0.

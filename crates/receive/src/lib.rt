@@ -1,11 +1,17 @@
-// The receiving call.
+// The receiving call, in place on a table whose columns are lent.
 ghost use mathlib.Core.Path.{_≡_};
-ghost use Rattle.model.specs.Refusals.{toldReceive};
+ghost use mathlib.Core.Bool.{true};
+ghost use Rattle.model.specs.Table.{tableOf, holding, valid};
 ghost use Rattle.model.specs.Receive.{receive};
-use model::ReceiveAnswer;
+ghost use Rattle.receive.specs.Receives.{Receives};
+
+pub mod hearing;
+
+use hearing::Hearing;
+use hearing::hear;
+use hearing::hearing_refusal;
+use model::Head;
 use model::Received;
-use model::Segment;
-use model::Table;
 use packet::header::Header;
 use packet::header::header_of;
 use packet::header::header_refusal;
@@ -13,104 +19,49 @@ use packet::header::marker;
 use packet::header::payload_type;
 use packet::header::ssrc;
 use packet::header::timestamp;
-use packet::payload::Payload;
-use packet::payload::payload_of;
-use packet::payload::payload_refusal;
-use table::taking::insert;
-use table::taking::merged;
-use table::taking::offset_of;
-use table::taking::refuse;
-use table::valid::in_ranges;
-use table::valid::key_of;
+use table::refused;
 
-// Receives a packet: the report that it carries is taken into the table, or the packet is refused with 16, 1 to 11 and the
-// table is as it was. All of it is one function because each call that takes a table copies it.
-pub fn receive(mut t: Table, s: &[u8]) -> Received
-    ensures { λ r. ⌜ toldReceive (r .answer) ≡ receive t (now (s .entry)) .answer ⌝ }
-    ensures { λ r. ⌜ r .table ≡ receive t (now (s .entry)) .table ⌝ }
+// Receives a packet into a table that passes the tests, and leaves one that passes them: its report is taken, or it is refused
+// with 1 to 11 and the table is as it was.
+pub fn receive_valid(
+    head: Head,
+    keys: &mut [u64; 128],
+    heard: &mut [u32; 128],
+    packet: &[u8],
+) -> Received
+    requires { ⌜ valid (tableOf head (now keys) (now heard)) ≡ true ⌝ }
+    ensures { λ r. ⌜ Receives head (now (keys .entry)) (now (heard .entry)) (now (packet .entry)) r (now (keys .exit)) (now (heard .exit)) ⌝ }
 {
-    let n = t.count;
-    if 128 < n {
-        return refuse(t, model::INVALID_TABLE);
-    }
-    if 127 < t.payload_type {
-        return refuse(t, model::INVALID_TABLE);
-    }
-    let mut i = 0;
-    let mut next: u64 = 0;
-    while i < n {
-        let tested = t.segments[i];
-        if !in_ranges(tested) {
-            return refuse(t, model::INVALID_TABLE);
-        }
-        let key = key_of(tested);
-        if key < next {
-            return refuse(t, model::INVALID_TABLE);
-        }
-        next = key + 1;
-        i += 1;
-    }
-    let h = header_of(s);
-    let Header::Found { start, end } = h else {
-        return refuse(t, header_refusal(h));
+    let found = header_of(packet);
+    let Header::Found { start, end } = found else {
+        return refused(header_refusal(found), head.count);
     };
-    if payload_type(s) != t.payload_type {
-        return refuse(t, model::OTHER_PAYLOAD_TYPE);
+    if payload_type(packet) != head.payload_type {
+        return refused(model::OTHER_PAYLOAD_TYPE, head.count);
     }
-    if ssrc(s) != t.ssrc {
-        return refuse(t, model::OTHER_SSRC);
+    if ssrc(packet) != head.ssrc {
+        return refused(model::OTHER_SSRC, head.count);
     }
-    let p = payload_of(&s[start..end]);
-    let Payload::Heard {
-        code,
-        ended,
-        volume,
-        duration,
-    } = p
-    else {
-        return refuse(t, payload_refusal(p));
+    let said = hear(
+        head.origin,
+        timestamp(packet),
+        marker(packet),
+        &packet[start..end],
+    );
+    let Hearing::Heard { key, told } = said else {
+        return refused(hearing_refusal(said), head.count);
     };
-    let offset = offset_of(t.origin, timestamp(s));
-    if 0x8000_0000 <= offset {
-        return refuse(t, model::OFFSET_TOO_LARGE);
+    table::take(head, keys, heard, key, told)
+}
+
+// Receives a packet: its report is taken into the table, or it is refused with 16 or 1 to 11 and the table is as it was.
+pub fn receive(head: Head, keys: &mut [u64; 128], heard: &mut [u32; 128], packet: &[u8]) -> Received
+    ensures { λ r. ⌜ r ≡ receive (tableOf head (now (keys .entry)) (now (heard .entry))) (now (packet .entry)) .answer ⌝ }
+    ensures { λ r. ⌜ tableOf (holding (r .count) head) (now (keys .exit)) (now (heard .exit))
+        ≡ receive (tableOf head (now (keys .entry)) (now (heard .entry))) (now (packet .entry)) .table ⌝ }
+{
+    if !table::is_valid(head, keys, heard) {
+        return refused(model::INVALID_TABLE, head.count);
     }
-    let r = Segment {
-        offset: offset,
-        code: code,
-        duration: duration,
-        volume: volume,
-        ended: ended,
-        marked: marker(s),
-    };
-    let wanted = key_of(r);
-    let mut low = 0;
-    let mut high = n;
-    while low < high {
-        let middle = low + (high - low) / 2;
-        let at = t.segments[middle];
-        if key_of(at) < wanted {
-            low = middle + 1;
-        } else {
-            high = middle;
-        }
-    }
-    if low < n {
-        let known = t.segments[low];
-        if key_of(known) == wanted {
-            let m = merged(r, known);
-            t.segments[low] = m;
-            return Received {
-                table: t,
-                answer: ReceiveAnswer::Known,
-            };
-        }
-    }
-    if n == 128 {
-        return refuse(t, model::TABLE_FULL);
-    }
-    let u = insert(t, low, r);
-    Received {
-        table: u,
-        answer: ReceiveAnswer::New,
-    }
+    receive_valid(head, keys, heard, packet)
 }

@@ -5,33 +5,48 @@ use super::show;
 use super::table5;
 use model::Event;
 use model::EventAnswer;
-use model::ReceiveAnswer;
+use model::Head;
+use model::Received;
 use model::Table;
 
-// The table after a row's packet; what receiving it answers is printed.
-fn after(t: Table, row: usize) -> Table {
-    let got = received(t, packet_of(table5::report(row)));
-    let a = got.answer;
-    match a {
-        ReceiveAnswer::New => show::text(b" new"),
-        ReceiveAnswer::Known => show::text(b" known"),
-        ReceiveAnswer::Refused(n) => show::field(b" refusal", n as u32),
+// New, known or the refusal's number.
+fn answer(a: Received) {
+    if a.refusal != 0 {
+        show::field(b" refusal", (a.refusal % 256) as u32);
+        return;
     }
-    let u = got.table;
-    u
+    if a.is_new {
+        show::text(b" new");
+    } else {
+        show::text(b" known");
+    }
+}
+
+// Receives every row's packet, and prints each answer; the head after them.
+fn receive_all(head: Head, keys: &mut [u64; 128], heard: &mut [u32; 128]) -> Head {
+    let mut after = head;
+    show::text(b"received:");
+    for row in 0..table5::ROWS {
+        let got = received(after, keys, heard, packet_of(table5::report(row)));
+        answer(got);
+        after.count = got.count;
+    }
+    show::text(b"\n");
+    after
 }
 
 // The table after every row's packet.
 fn table() -> Table {
     let o = table::open(table5::PAYLOAD_TYPE, table5::SSRC, 0);
-    let mut t = o.table;
-    show::text(b"received:");
-    for row in 0..table5::ROWS {
-        let u = after(t, row);
-        t = u;
+    let t = o.table;
+    let mut keys = t.keys;
+    let mut heard = t.heard;
+    let head = receive_all(t.head, &mut keys, &mut heard);
+    Table {
+        head: head,
+        keys: keys,
+        heard: heard,
     }
-    show::text(b"\n");
-    t
 }
 
 // Prints the fields of an event.
@@ -48,7 +63,7 @@ fn event(v: Event) {
 fn event_row(t: Table, k: u32) {
     show::field(b"event", k);
     show::text(b":");
-    let a = events::event_at(t, k);
+    let a = events::event_at(t.head, &t.keys, &t.heard, k);
     match a {
         EventAnswer::Found(v) => event(v),
         EventAnswer::Refused(n) => show::field(b" refusal", n as u32),

@@ -1,8 +1,8 @@
 // Packets of 16 bytes.
+use model::Head;
 use model::ReadAnswer;
 use model::Received;
 use model::Report;
-use model::Table;
 
 // The packet of a report.
 pub fn packet_of(r: Report) -> [u8; 16] {
@@ -17,8 +17,13 @@ pub fn read(b: [u8; 16]) -> ReadAnswer {
 }
 
 // What receiving a packet into a table answers.
-pub fn received(t: Table, b: [u8; 16]) -> Received {
-    receive::receive(t, &b[0..16])
+pub fn received(
+    head: Head,
+    keys: &mut [u64; 128],
+    heard: &mut [u32; 128],
+    b: [u8; 16],
+) -> Received {
+    receive::receive(head, keys, heard, &b[0..16])
 }
 
 // Whether two packets have the same bytes.

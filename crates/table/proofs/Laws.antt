@@ -1,27 +1,34 @@
 -- The laws that close the needs of the table's functions.
-use Prim.Native.Nat.{ℕ, _≤_, _<_, min, max}
+use Prim.Native.Nat.{ℕ, _≤_, _<_}
 use mathlib.Core.Path.{_≡_, sym, _∙_}
-use mathlib.Core.Bool.{Bool, _||_}
 use mathlib.Core.List.{List, map}
+use mathlib.Core.Bool.{false, _&&_}
+use lib.Dec.{ltb, eqb}
+use lib.ListN.{length, getD, length-map}
 use borrow.Author.Needs.{needs}
 use borrow.Author.Tests.{lt-ltb, le-ltb}
-use lib.ListN.{length, length-map}
-use Rattle.model.specs.declared.Segment.{Segment}
 use Rattle.model.specs.declared.Table.{Table}
-use Rattle.model.specs.Segments.{merge}
 use Rattle.model.specs.Table.{emptyTable, opened}
-use Rattle.packet.proofs.Laws.{header-whole, starts-before-end, ends-within}
-use Rattle.table.proofs.Keys.{far, code-high, no-duration, too-many, wrong-type, all-passed, out-of-ranges, out-of-order, pass-on}
-use Rattle.table.proofs.Places.{count-few, search-starts, other-there, none-there}
-use Rattle.table.proofs.Answers.{full-answer}
-use Rattle.table.proofs.Receives.{invalid, unread, other-type, other-source, unheard, too-far}
-use Rattle.table.proofs.Shifts.{none-moved, one-moved}
+use Rattle.table.proofs.Halving.{search-starts, search-ends}
+use Rattle.table.proofs.Keys.{longest-small, one-bit, merged-is}
+use Rattle.table.proofs.Gathers.{
+  no-keys,
+  keys-start,
+  keys-go-on,
+  key-too-far,
+  key-no-code,
+  keys-by-falls,
+  heard-start,
+  heard-goes-on,
+  volume-too-high,
+  heard-by-none,
+}
+use Rattle.table.proofs.Tests.{too-many, wrong-type, keys-fail, by-heard}
+use Rattle.table.proofs.Shifts.{opening-starts, opening-goes-on, key-put-in, told-put-in, stores, stored-length}
 
--- the 128 places of a table that is a parameter
+-- the 128 places of a column
 pub length-mapped : (A B : Type 0) (f : A → B) (l : List A) (n : ℕ) → length (map f l) ≡ n → length l ≡ n
 length-mapped A B f l n e = sym (length-map l f) ∙ e
-
--- OPENING
 
 module _ (type ssrc origin : ℕ) (t : Table) where
   pub type-high : 127 < type → t ≡ emptyTable 0 0 0 → record { table = t; refusal = 12 } ≡ opened type ssrc origin
@@ -30,41 +37,43 @@ module _ (type ssrc origin : ℕ) (t : Table) where
   pub type-fits : type ≤ 127 → t ≡ emptyTable type ssrc origin → record { table = t; refusal = 0 } ≡ opened type ssrc origin
   type-fits h e = rw (le-ltb 127 type h, e)
 
--- A REPORT TAKEN
+module _ (keys : List ℕ) (n i k : ℕ) where
+  pub not-there : n ≤ i → false ≡ (ltb i n && eqb (getD keys i 0) k)
+  not-there h = rw (le-ltb i n h)
 
-pub merge-fields : (r s : Segment) (d v : ℕ) (e m : Bool) → d ≡ max (r .duration) (s .duration) → v ≡ min (r .volume) (s .volume)
-    → e ≡ (r .ended || s .ended) → m ≡ (r .marked || s .marked)
-    → record { offset = s .offset; code = s .code; duration = d; volume = v; ended = e; marked = m } ≡ merge r s
-merge-fields r s d v e m p q x y = λ i. record { offset = s .offset; code = s .code; duration = p i; volume = q i; ended = x i; marked = y i }
+  pub there-if : i < n → eqb (getD keys i 0) k ≡ (ltb i n && eqb (getD keys i 0) k)
+  there-if h = rw (lt-ltb i n h)
 
 pub ruleset receiving = (
   needs,
   length-mapped,
   type-high,
   type-fits,
-  count-few,
+  opening-starts,
+  opening-goes-on,
+  key-put-in,
+  told-put-in,
+  stores,
+  stored-length,
   search-starts,
-  other-there,
-  none-there,
-  none-moved,
-  one-moved,
-  invalid,
-  unread,
-  other-type,
-  other-source,
-  header-whole,
-  starts-before-end,
-  ends-within,
-  unheard,
-  too-far,
-  full-answer,
-  far,
-  code-high,
-  no-duration,
+  search-ends,
+  no-keys,
+  keys-start,
+  keys-go-on,
+  key-too-far,
+  key-no-code,
+  keys-by-falls,
+  heard-start,
+  heard-goes-on,
+  volume-too-high,
+  heard-by-none,
   too-many,
   wrong-type,
-  all-passed,
-  out-of-ranges,
-  out-of-order,
-  pass-on,
+  keys-fail,
+  by-heard,
+  longest-small,
+  one-bit,
+  merged-is,
+  not-there,
+  there-if,
 )

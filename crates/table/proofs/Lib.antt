@@ -1,6 +1,9 @@
+pub mod Halving
 pub mod Keys
-pub mod Places
+pub mod Gathers
 pub mod Shifts
-pub mod Answers
-pub mod Receives
+pub mod Puts
+pub mod Columns
+pub mod Takes
+pub mod Tests
 pub mod Laws

@@ -1,7 +1,11 @@
-// The receiving table: its opening, its tests and the steps of the receiving calls.
+// The receiving table: its opening, its tests, and a report taken into columns that are lent.
+pub mod numbers;
 mod opening;
-pub mod taking;
-pub mod valid;
+mod places;
+mod taking;
+mod valid;
 
 pub use opening::open;
+pub use taking::refused;
+pub use taking::take;
 pub use valid::is_valid;

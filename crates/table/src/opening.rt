@@ -1,29 +1,24 @@
 // Opening a table.
 ghost use mathlib.Core.Path.{_≡_};
 ghost use Rattle.model.specs.Table.{emptyTable, opened};
+use model::Head;
 use model::Opened;
-use model::Segment;
 use model::Table;
 
 // A table with no segments, and zeros in all places.
 fn empty(payload_type: u8, ssrc: u32, origin: u32) -> Table
     ensures { λ r. ⌜ r ≡ emptyTable «payload_type» ssrc origin ⌝ }
 {
-    let none = Segment {
-        offset: 0,
-        code: 0,
-        duration: 0,
-        volume: 0,
-        ended: false,
-        marked: false,
-    };
-    let segments = [none; 128];
-    Table {
+    let head = Head {
         payload_type: payload_type,
         ssrc: ssrc,
         origin: origin,
         count: 0,
-        segments: segments,
+    };
+    Table {
+        head: head,
+        keys: [0; 128],
+        heard: [0; 128],
     }
 }
 

@@ -1,90 +1,85 @@
-// The steps of a receiving call: the offset of a report, a refusal, a report taken into a table.
+// A report taken into columns that are lent.
 ghost use mathlib.Core.Path.{_≡_};
-ghost use mathlib.Core.Bool.{_||_};
-ghost use Prim.Native.Nat.{_≤_, _<_, min, max};
-ghost use Rattle.model.specs.Segments.{merge};
-ghost use Rattle.model.specs.Receive.{offset};
-ghost use Rattle.table.specs.Taken.{refusedWith, inserted};
-use model::ReceiveAnswer;
+ghost use mathlib.Core.Bool.{true};
+ghost use Prim.Native.Nat.{_≤_, _<_};
+ghost use lib.ListN.{length, getD, set};
+ghost use Rattle.model.specs.Table.{tableOf, holding, valid, segmentOf};
+ghost use Rattle.model.specs.Receive.{refusedWith};
+ghost use Rattle.table.specs.Columns.{insertedAt, mergedHeard, takenInto};
+use super::numbers::merged;
+use super::places::find;
+use super::places::stands_at;
+use model::Head;
 use model::Received;
-use model::Segment;
-use model::Table;
 
-// (timestamp - origin) modulo 2^32.
-pub fn offset_of(origin: u32, timestamp: u32) -> u32
-    ensures { λ r. ⌜ r ≡ offset origin timestamp ⌝ }
-{
-    if origin <= timestamp {
-        return timestamp - origin;
-    }
-    timestamp + (0xffff_ffff - origin) + 1
-}
-
-// A refusal, with the table as it was.
-pub fn refuse(t: Table, n: u8) -> Received
-    ensures { λ r. ⌜ r ≡ refusedWith n t ⌝ }
+// What a receiving call answers that refuses, with as many segments held as before.
+pub fn refused(refusal: u8, count: usize) -> Received
+    ensures { λ r. ⌜ r ≡ refusedWith refusal count ⌝ }
 {
     Received {
-        table: t,
-        answer: ReceiveAnswer::Refused(n),
+        refusal: refusal as u64,
+        is_new: false,
+        count: count,
     }
 }
 
-fn larger(a: u16, b: u16) -> u16
-    ensures { λ r. ⌜ r ≡ max a b ⌝ }
+// Puts a segment's two numbers in at place i of the n held: later ones move up by one place, the places above stay.
+fn insert(keys: &mut [u64], heard: &mut [u32], n: usize, i: usize, key: u64, told: u32)
+    requires { ⌜ i ≤ n ⌝ }
+    requires { ⌜ n < length (now keys) ⌝ }
+    requires { ⌜ n < length (now heard) ⌝ }
+    ensures { λ _. ⌜ now (keys .exit) ≡ insertedAt i key n (now (keys .entry)) ⌝ }
+    ensures { λ _. ⌜ now (heard .exit) ≡ insertedAt i told n (now (heard .entry)) ⌝ }
 {
-    if a < b {
-        return b;
-    }
-    a
-}
-
-fn smaller(a: u8, b: u8) -> u8
-    ensures { λ r. ⌜ r ≡ min a b ⌝ }
-{
-    if b < a {
-        return b;
-    }
-    a
-}
-
-fn either(a: bool, b: bool) -> bool
-    ensures { λ r. ⌜ r ≡ (a || b) ⌝ }
-{
-    if a {
-        return true;
-    }
-    b
-}
-
-// A segment held that keeps a report of its pair too.
-pub fn merged(r: Segment, s: Segment) -> Segment
-    ensures { λ m. ⌜ m ≡ merge r s ⌝ }
-{
-    Segment {
-        offset: s.offset,
-        code: s.code,
-        duration: larger(r.duration, s.duration),
-        volume: smaller(r.volume, s.volume),
-        ended: either(r.ended, s.ended),
-        marked: either(r.marked, s.marked),
-    }
-}
-
-// The table with a new segment at place i: later ones move up by one place, and the places above stay.
-pub fn insert(mut t: Table, i: usize, r: Segment) -> Table
-    requires { ⌜ i ≤ t .count ⌝ }
-    requires { ⌜ t .count < 128 ⌝ }
-    ensures { λ u. ⌜ u ≡ inserted t i r ⌝ }
-{
-    let n = t.count;
     let mut j = n;
     while i < j {
-        let s = t.segments[j - 1];
-        t.segments[j] = s;
+        keys[j] = keys[j - 1];
+        heard[j] = heard[j - 1];
         j -= 1;
     }
-    t.segments[i] = r;
-    t.count = n + 1;
-    t
+    keys[i] = key;
+    heard[i] = told;
+}
+
+// The segment at place i keeps a report of its pair too.
+fn merge_at(heard: &mut [u32], i: usize, told: u32)
+    requires { ⌜ i < length (now heard) ⌝ }
+    ensures { λ _. ⌜ now (heard .exit) ≡ set (now (heard .entry)) i (mergedHeard told (getD (now (heard .entry)) i 0)) ⌝ }
+{
+    heard[i] = merged(told, heard[i]);
+}
+
+// Takes a report, given as a segment's two numbers, into a table that passes the tests: a known segment keeps it too, a new
+// one is put in at its place, or refused with 11 if there is no room.
+pub fn take(
+    head: Head,
+    keys: &mut [u64; 128],
+    heard: &mut [u32; 128],
+    key: u64,
+    told: u32,
+) -> Received
+    requires { ⌜ valid (tableOf head (now keys) (now heard)) ≡ true ⌝ }
+    ensures { λ r. ⌜ r ≡ takenInto (tableOf head (now (keys .entry)) (now (heard .entry))) (segmentOf key told) .answer ⌝ }
+    ensures { λ r. ⌜ tableOf (holding (r .count) head) (now (keys .exit)) (now (heard .exit))
+        ≡ takenInto (tableOf head (now (keys .entry)) (now (heard .entry))) (segmentOf key told) .table ⌝ }
+{
+    let n = head.count;
+    let i = find(keys, n, key);
+    if stands_at(keys, n, i, key) {
+        merge_at(heard, i, told);
+        return Received {
+            refusal: 0,
+            is_new: false,
+            count: n,
+        };
+    }
+    if n == 128 {
+        return refused(model::TABLE_FULL, n);
+    }
+    insert(keys, heard, n, i, key, told);
+    Received {
+        refusal: 0,
+        is_new: true,
+        count: n + 1,
+    }
 }

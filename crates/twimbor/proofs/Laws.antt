@@ -1,23 +1,18 @@
 -- What is told of an answer, case by case, is what the struct in its place holds.
 use Prim.Native.Nat.{ℕ}
 use mathlib.Core.Path.{_≡_, sym, ap, _∙_}
-use mathlib.Core.Bool.{true, false}
 use borrow.Author.Needs.{needs}
 use Rattle.model.specs.declared.Report.{Report}
 use Rattle.model.specs.declared.ReadAnswer.{ReadAnswer}
 use Rattle.model.specs.declared.WriteAnswer.{WriteAnswer}
 use Rattle.model.specs.declared.CountAnswer.{CountAnswer}
-use Rattle.model.specs.declared.ReceiveAnswer.{ReceiveAnswer}
 use Rattle.model.specs.declared.EventAnswer.{EventAnswer}
 use Rattle.model.specs.declared.Event.{Event}
-use Rattle.model.specs.declared.Table.{Table}
-use Rattle.model.specs.Receive.{Receiving}
-use Rattle.model.specs.Refusals.{Told, noReport, noEvent, toldRead, toldWrite, toldCount, toldReceive, toldEvent}
-use Rattle.twimbor.specs.Results.{readResult, countResult, receiveResult, eventResult}
+use Rattle.model.specs.Refusals.{Told, noReport, noEvent, toldRead, toldWrite, toldCount, toldEvent}
+use Rattle.twimbor.specs.Results.{readResult, countResult, eventResult}
 use Rattle.model.specs.declared.ReadAnswer.the-variants as readAnswer
 use Rattle.model.specs.declared.WriteAnswer.the-variants as writeAnswer
 use Rattle.model.specs.declared.CountAnswer.the-variants as countAnswer
-use Rattle.model.specs.declared.ReceiveAnswer.the-variants as receiveAnswer
 use Rattle.model.specs.declared.EventAnswer.the-variants as eventAnswer
 
 module _ (a : ReadAnswer) (t : Told Report) (told : toldRead a ≡ t) where
@@ -41,19 +36,6 @@ module _ (a : CountAnswer) (t : Told ℕ) (told : toldCount a ≡ t) where
   pub count-refused : (n : ℕ) → a ≡ countAnswer.Refused n → record { reports = 0; refusal = n } ≡ countResult t
   count-refused n e = ap (λ (x : CountAnswer). countResult (toldCount x)) (sym e) ∙ ap countResult told
 
-module _ (a : ReceiveAnswer) (u : Table) (q : Receiving) (told : toldReceive a ≡ q .answer) (after : u ≡ q .table) where
-  received : (b : ReceiveAnswer) → a ≡ b → record { table = u; refusal = toldReceive b .number; «is_new» = toldReceive b .values } ≡ receiveResult q
-  received b e = let x : toldReceive b ≡ q .answer = ap toldReceive (sym e) ∙ told in λ i. record { table = after i; refusal = x i .number; «is_new» = x i .values }
-
-  pub received-new : a ≡ receiveAnswer.New → record { table = u; refusal = 0; «is_new» = true } ≡ receiveResult q
-  received-new = received receiveAnswer.New
-
-  pub received-known : a ≡ receiveAnswer.Known → record { table = u; refusal = 0; «is_new» = false } ≡ receiveResult q
-  received-known = received receiveAnswer.Known
-
-  pub received-refused : (n : ℕ) → a ≡ receiveAnswer.Refused n → record { table = u; refusal = n; «is_new» = false } ≡ receiveResult q
-  received-refused n = received (receiveAnswer.Refused n)
-
 module _ (a : EventAnswer) (t : Told Event) (told : toldEvent a ≡ t) where
   pub event-given : (v : Event) → a ≡ eventAnswer.Found v → record { event = v; refusal = 0 } ≡ eventResult t
   event-given v e = ap (λ (x : EventAnswer). eventResult (toldEvent x)) (sym e) ∙ ap eventResult told
@@ -61,4 +43,4 @@ module _ (a : EventAnswer) (t : Told Event) (told : toldEvent a ≡ t) where
   pub event-refused : (n : ℕ) → a ≡ eventAnswer.Refused n → (z : Event) → z ≡ noEvent → record { event = z; refusal = n } ≡ eventResult t
   event-refused n e z f = rw f (ap (λ (x : EventAnswer). eventResult (toldEvent x)) (sym e) ∙ ap eventResult told)
 
-pub ruleset answers = (needs, read-given, read-refused, write-given, write-refused, count-given, count-refused, received-new, received-known, received-refused, event-given, event-refused)
+pub ruleset answers = (needs, read-given, read-refused, write-given, write-refused, count-given, count-refused, event-given, event-refused)

@@ -4,9 +4,7 @@ use Rattle.model.specs.declared.Report.{Report}
 use Rattle.model.specs.Refusals.{Told}
 use Rattle.twimbor.specs.declared.ReadResult.{ReadResult}
 use Rattle.model.specs.declared.Event.{Event}
-use Rattle.model.specs.Receive.{Receiving}
 use Rattle.twimbor.specs.declared.CountResult.{CountResult}
-use Rattle.twimbor.specs.declared.ReceiveResult.{ReceiveResult}
 use Rattle.twimbor.specs.declared.EventResult.{EventResult}
 
 abbrev pub readResult : Told Report → ReadResult
@@ -14,9 +12,6 @@ readResult t = record { refusal = t .number; report = t .values }
 
 abbrev pub countResult : Told ℕ → CountResult
 countResult t = record { refusal = t .number; reports = t .values }
-
-abbrev pub receiveResult : Receiving → ReceiveResult
-receiveResult q = record { table = q .table; refusal = q .answer .number; «is_new» = q .answer .values }
 
 abbrev pub eventResult : Told Event → EventResult
 eventResult t = record { event = t .values; refusal = t .number }

@@ -4,20 +4,20 @@ ghost use mathlib.Core.Path.{_≡_};
 ghost use Rattle.model.specs.Refusals.{noReport, noEvent};
 ghost use Rattle.model.specs.Packet.{read, write};
 ghost use Rattle.model.specs.Plan.{countReports, writePlanned};
-ghost use Rattle.model.specs.Table.{valid, opened};
+ghost use Rattle.model.specs.Table.{valid, opened, tableOf, holding};
 ghost use Rattle.model.specs.Receive.{receive};
 ghost use Rattle.model.specs.List.{eventAt, list};
-ghost use Rattle.twimbor.specs.Results.{readResult, countResult, receiveResult, eventResult};
+ghost use Rattle.twimbor.specs.Results.{readResult, countResult, eventResult};
 use model::CountAnswer;
 use model::Event;
 use model::EventAnswer;
+use model::Head;
 use model::Listed;
 use model::Opened;
 use model::Plan;
 use model::ReadAnswer;
-use model::ReceiveAnswer;
+use model::Received;
 use model::Report;
-use model::Table;
 use model::WriteAnswer;
 
 // A report, or the number of the refusal and zeros.
@@ -32,14 +32,6 @@ pub struct ReadResult {
 pub struct CountResult {
     pub reports: u32,
     pub refusal: u8,
-}
-
-// The table after a receiving call; the refusal's number, 0 if the packet was taken; whether its segment is new.
-#[repr(C)]
-pub struct ReceiveResult {
-    pub table: Table,
-    pub refusal: u8,
-    pub is_new: bool,
 }
 
 // An event, or the number of the refusal and zeros.
@@ -142,7 +134,7 @@ pub extern "C" fn twimbor_write_report(p: Plan, k: u32, out: &mut [u8]) -> u8
 
 // An empty table for one payload type and SSRC, or 12 with a table of zeros if the payload type is above 127.
 #[no_mangle]
-pub extern "C" fn twimbor_open(payload_type: u32, ssrc: u32, origin: u32) -> Opened
+pub extern "C" fn twimbor_open_table(payload_type: u32, ssrc: u32, origin: u32) -> Opened
     ensures { λ r. ⌜ r ≡ opened «payload_type» ssrc origin ⌝ }
 {
     table::open(payload_type, ssrc, origin)
@@ -150,45 +142,43 @@ pub extern "C" fn twimbor_open(payload_type: u32, ssrc: u32, origin: u32) -> Ope
 
 // Whether a table passes the tests of refusal 16.
 #[no_mangle]
-pub extern "C" fn twimbor_is_valid(t: Table) -> bool
-    ensures { λ r. ⌜ r ≡ valid t ⌝ }
+pub extern "C" fn twimbor_is_valid_columns<'a>(
+    head: Head,
+    keys: &'a [u64; 128],
+    heard: &'a [u32; 128],
+) -> bool
+    ensures { λ r. ⌜ r ≡ valid (tableOf head (now (keys .entry)) (now (heard .entry))) ⌝ }
 {
-    table::is_valid(t)
+    table::is_valid(head, keys, heard)
 }
 
-// Receives a packet: its report is taken into the table, or it is refused with 16 or 1 to 11 and the table is as it was.
+// Receives a packet: its report is taken into the table, or it is refused with 16 or 1 to 11 and the table is as it was. The
+// answer's count is the table's from then on.
 #[no_mangle]
-pub extern "C" fn twimbor_receive(t: Table, s: &[u8]) -> ReceiveResult
-    ensures { λ r. ⌜ r ≡ receiveResult (receive t (now (s .entry))) ⌝ }
+pub extern "C" fn twimbor_receive_columns(
+    head: Head,
+    keys: &mut [u64; 128],
+    heard: &mut [u32; 128],
+    packet: &[u8],
+) -> Received
+    ensures { λ r. ⌜ r ≡ receive (tableOf head (now (keys .entry)) (now (heard .entry))) (now (packet .entry)) .answer ⌝ }
+    ensures { λ r. ⌜ tableOf (holding (r .count) head) (now (keys .exit)) (now (heard .exit))
+        ≡ receive (tableOf head (now (keys .entry)) (now (heard .entry))) (now (packet .entry)) .table ⌝ }
 {
-    let got = receive::receive(t, s);
-    let u = got.table;
-    let a = got.answer;
-    match a {
-        ReceiveAnswer::New => ReceiveResult {
-            table: u,
-            refusal: 0,
-            is_new: true,
-        },
-        ReceiveAnswer::Known => ReceiveResult {
-            table: u,
-            refusal: 0,
-            is_new: false,
-        },
-        ReceiveAnswer::Refused(reason) => ReceiveResult {
-            table: u,
-            refusal: reason,
-            is_new: false,
-        },
-    }
+    receive::receive(head, keys, heard, packet)
 }
 
 // The event at number k, counted from 1 by start, then code, or 16 or 13.
 #[no_mangle]
-pub extern "C" fn twimbor_event_at(t: Table, k: u32) -> EventResult
-    ensures { λ r. ⌜ r ≡ eventResult (eventAt t k) ⌝ }
+pub extern "C" fn twimbor_event_at_columns<'a>(
+    head: Head,
+    keys: &'a [u64; 128],
+    heard: &'a [u32; 128],
+    k: u32,
+) -> EventResult
+    ensures { λ r. ⌜ r ≡ eventResult (eventAt (tableOf head (now (keys .entry)) (now (heard .entry))) k) ⌝ }
 {
-    let a = events::event_at(t, k);
+    let a = events::event_at(head, keys, heard, k);
     match a {
         EventAnswer::Found(v) => EventResult {
             event: v,
@@ -203,8 +193,21 @@ pub extern "C" fn twimbor_event_at(t: Table, k: u32) -> EventResult
 
 // Writes the events into the first lent records and answers how many, or 16 or 15; the other records stay.
 #[no_mangle]
-pub extern "C" fn twimbor_list(t: Table, out: &mut [Event]) -> Listed
-    ensures { λ r. ⌜ (r ≡ list t (now (out .entry)) .answer) × (now (out .exit) ≡ list t (now (out .entry)) .records) ⌝ }
+pub extern "C" fn twimbor_list_columns<'a>(
+    head: Head,
+    keys: &'a [u64; 128],
+    heard: &'a [u32; 128],
+    out: &mut [Event],
+) -> Listed
+    ensures { λ r. ⌜ (r ≡ list (tableOf head (now (keys .entry)) (now (heard .entry))) (now (out .entry)) .answer)
+        × (now (out .exit) ≡ list (tableOf head (now (keys .entry)) (now (heard .entry))) (now (out .entry)) .records) ⌝ }
 {
-    events::list::list(t, out)
+    let a = events::answer_for(head, keys, heard, out.len());
+    let n = a.events;
+    let mut k = 0usize;
+    while k < n {
+        out[k] = events::event_of(head, keys, heard, k);
+        k += 1usize;
+    }
+    a
 }

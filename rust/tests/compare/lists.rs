@@ -1,5 +1,6 @@
 //! The event at a number, and the list into lent records.
 
+use crate::both::Both;
 use crate::make::tables::{any_event, broken_table, table};
 use crate::paper::events as paper;
 use crate::random::Random;
@@ -16,8 +17,9 @@ fn event_at(table: &Table, events: &Events, k: u32) -> Result<Event, u8> {
     let answer = paper::event_at(events, k);
     let refusal = answer.err().unwrap_or(0);
     let result = EventResult { event: answer.unwrap_or_default(), refusal };
-    assert_eq!(sys::event_at(table, k), result, "{k} of {table:?}");
-    assert_eq!(table.event(k).map_err(Refusal::number), answer, "{k} of {table:?}");
+    let said = sys::event_at_columns(table.head, &table.keys, &table.heard, k);
+    assert_eq!(said, result, "{k} of {table:?}");
+    assert_eq!(table.event_at(k).map_err(Refusal::number), answer, "{k} of {table:?}");
     answer
 }
 
@@ -32,8 +34,8 @@ pub fn list(
     let answer = paper::list(events, &mut expected[..length]);
     let listed = Listed { refusal: answer.err().unwrap_or(0), events: answer.unwrap_or(0) };
     let mut lent = before.clone();
-    assert_eq!(sys::list(table, &mut lent[..length]), listed, "{length} for {table:?}");
-    assert_eq!(lent, expected, "{length} for {table:?}");
+    let said = sys::list_columns(table.head, &table.keys, &table.heard, &mut lent[..length]);
+    assert_eq!((said, &lent), (listed, &expected), "{length} for {table:?}");
     let mut lent = before.clone();
     let said = table.list_into(&mut lent[..length]).map_err(Refusal::number);
     assert_eq!((said, lent), (answer, expected), "{length} for {table:?}");
@@ -45,17 +47,19 @@ fn events_are_listed_as_on_paper() {
     let random = &Random::new(8);
     let (mut numbers, mut lists) = (Tally::default(), Tally::default());
     for i in 0..TABLES {
-        let table = if i % 4 == 0 { broken_table(random) } else { table(random) };
-        let events = paper::events(&table);
+        let both = Both::of(if i % 4 == 0 { broken_table(random) } else { table(random) });
+        let events = paper::events(&both.paper);
+        let table = &both.library;
         assert_eq!(table.events().map_err(Refusal::number), events, "{table:?}");
         let n = events.as_ref().map_or(0, Vec::len);
         for length in [n.saturating_sub(1), n, n + 1, random.index(160)] {
-            lists.add(list(random, (&table, &events), length));
+            lists.add(list(random, (table, &events), length));
         }
         let n = n as u32;
         for k in [random.pick(&[0, u32::MAX, random.u32()]), 1 + random.below(n.max(1)), n, n + 1] {
-            numbers.add(event_at(&table, &events, k));
+            numbers.add(event_at(table, &events, k));
         }
+        both.compare();
     }
     numbers.finish("event at a number", &[13, 16]);
     lists.finish("list", &[15, 16]);

@@ -1,6 +1,7 @@
 //! The library compared with document 01, written again from its text alone (`paper`), on random
 //! inputs: each answer, table field, place, and lent byte and record, also under a refusal.
 
+mod both;
 mod lists;
 mod make;
 mod order;

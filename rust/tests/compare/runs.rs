@@ -1,13 +1,14 @@
 //! Whole runs: events sent by plans to one table, with losses, repeats, any order, and strangers
 //! between. As long as what is needed arrives, the list is exactly the events sent.
 
+use crate::both::Both;
 use crate::lists::list;
 use crate::make::packets::{damage, packet_for};
 use crate::make::tables::empty_table;
-use crate::paper::table as paper;
+use crate::paper::table::{self as paper, Table};
 use crate::random::Random;
 use crate::tables::receive;
-use twimbor::{Event, Plan, Report, Table};
+use twimbor::{Event, Plan, Report};
 
 const RUNS: usize = 4_000;
 
@@ -72,16 +73,16 @@ fn reorder(random: &Random, packets: &mut [Vec<u8>]) {
 }
 
 /// Receives bytes that the table refuses, if such bytes are found at once.
-fn stranger(random: &Random, table: &mut Table, sent: &[Vec<u8>]) -> usize {
-    let mut packet = packet_for(random, table);
+fn stranger(random: &Random, both: &mut Both, sent: &[Vec<u8>]) -> usize {
+    let mut packet = packet_for(random, &both.paper);
     if random.one_in(3) && !sent.is_empty() {
         packet = random.pick(sent);
         damage(random, &mut packet);
     }
-    if paper::receive(&mut table.clone(), &packet).is_ok() {
+    if paper::receive(&mut both.paper.clone(), &packet).is_ok() {
         return 0;
     }
-    assert!(receive(table, &packet).is_err());
+    assert!(receive(both, &packet).is_err());
     1
 }
 
@@ -90,27 +91,28 @@ fn the_list_is_what_was_sent() {
     let random = &Random::new(9);
     let (mut sent_events, mut taken, mut strangers, mut full) = (0, 0, 0, 0);
     for _ in 0..RUNS {
-        let mut table = empty_table(random);
+        let mut both = Both::of(empty_table(random));
         let events = events(random);
-        let arrive = |event| arriving(random, &table, event);
+        let arrive = |event| arriving(random, &both.paper, event);
         let mut packets: Vec<_> = events.iter().flat_map(arrive).collect();
         reorder(random, &mut packets);
         for packet in &packets {
-            assert!(receive(&mut table, packet).is_ok());
+            assert!(receive(&mut both, packet).is_ok());
             if random.one_in(2) {
-                strangers += stranger(random, &mut table, &packets);
+                strangers += stranger(random, &mut both, &packets);
             }
         }
-        strangers += stranger(random, &mut table, &packets);
+        strangers += stranger(random, &mut both, &packets);
+        let table = &both.library;
         sent_events += events.len();
         let room = events.len() + random.index(3);
         assert_eq!(table.events().as_ref(), Ok(&events), "{table:?}");
         for (k, event) in (1..).zip(&events) {
-            assert_eq!(table.event(k), Ok(*event));
+            assert_eq!(table.event_at(k), Ok(*event));
         }
-        assert!(list(random, (&table, &Ok(events)), room).is_ok());
+        assert!(list(random, (table, &Ok(events)), room).is_ok());
         taken += packets.len();
-        full += usize::from(table.count == 128);
+        full += usize::from(table.head.count == 128);
     }
     println!(
         "runs: {RUNS}, events sent and listed: {sent_events}, packets taken: {taken}, \

@@ -1,29 +1,37 @@
-//! open, the tests of refusal 16, and receive.
+//! open, tables made of segments, the tests of refusal 16, and receive.
 
+use crate::both::{Both, library, segment};
 use crate::make::packets::{damage, packet_for};
 use crate::make::{self, tables};
-use crate::paper::{packet, plan, table as paper};
+use crate::paper::table::{self as paper, Table};
+use crate::paper::{packet, plan};
 use crate::random::Random;
 use crate::tally::Tally;
 use twimbor::sys::{self, Opened, Received};
-use twimbor::{Plan, Refusal, Table, Taken};
+use twimbor::{Plan, Refusal, Taken};
 
-pub const INPUTS: usize = OPENINGS + TABLES + RECEIVED;
+pub const INPUTS: usize = OPENINGS + MADE + TABLES + RECEIVED;
 const OPENINGS: usize = 50_000;
+const MADE: usize = 50_000;
 const TABLES: usize = 150_000;
 const RECEIVED: usize = 200_000;
 
-/// Receives with the library and on paper; the table goes on as both leave it.
-pub fn receive(table: &mut Table, packet: &[u8]) -> Result<Taken, u8> {
-    let mut expected = table.clone();
-    let is_new = paper::receive(&mut expected, packet);
-    let refusal = is_new.err().unwrap_or(0);
-    let received = Received { table: expected, refusal, is_new: is_new == Ok(true) };
-    assert_eq!(sys::receive(table, packet), received, "{packet:02x?} in {table:?}");
-    let answer = is_new.map(|is_new| if is_new { Taken::New } else { Taken::Known });
-    assert_eq!(table.receive(packet).map_err(Refusal::number), answer, "{packet:02x?}");
-    assert_eq!(*table, received.table, "{packet:02x?}");
-    answer
+/// Receives with the library and on paper; the tables go on as each leaves its own.
+pub fn receive(both: &mut Both, packet: &[u8]) -> Result<Taken, u8> {
+    let mut lent = both.library.clone();
+    let is_new = paper::receive(&mut both.paper, packet);
+    let received = Received {
+        refusal: u64::from(is_new.err().unwrap_or(0)),
+        is_new: is_new == Ok(true),
+        count: both.paper.count,
+    };
+    let answer = sys::receive_columns(lent.head, &mut lent.keys, &mut lent.heard, packet);
+    assert_eq!(answer, received, "{packet:02x?} in {both:?}");
+    let taken = is_new.map(|is_new| if is_new { Taken::New } else { Taken::Known });
+    assert_eq!(both.library.receive(packet).map_err(Refusal::number), taken, "{packet:02x?}");
+    assert_eq!((lent.keys, lent.heard), (both.library.keys, both.library.heard), "{packet:02x?}");
+    both.compare();
+    taken
 }
 
 #[test]
@@ -34,14 +42,40 @@ fn tables_are_opened_as_on_paper() {
         let payload_type = make::number(random, 0, 127);
         let (ssrc, origin) = (random.u32(), random.u32());
         let (table, answer) = paper::open(payload_type, ssrc, origin);
-        let refusal = answer.err().unwrap_or(0);
-        let opened = Opened { table: table.clone(), refusal };
-        assert_eq!(sys::open(payload_type, ssrc, origin), opened);
-        let said = Table::open(payload_type, ssrc, origin).map_err(Refusal::number);
-        assert_eq!(said, answer.map(|()| table));
+        let opened = Opened { table: library(&table), refusal: answer.err().unwrap_or(0) };
+        assert_eq!(sys::open_table(payload_type, ssrc, origin), opened);
+        let said = twimbor::Table::open(payload_type, ssrc, origin).map_err(Refusal::number);
+        assert_eq!(said, answer.map(|()| opened.table));
         tally.add(answer);
     }
     tally.finish("open", &[12]);
+}
+
+/// A table made of the segments of another, with zeros in the places above, if it passes the tests.
+#[test]
+fn tables_are_made_of_segments() {
+    let random = &Random::new(11);
+    let mut tally = Tally::default();
+    for i in 0..MADE {
+        let table = if i % 2 == 0 { tables::broken_table(random) } else { tables::table(random) };
+        let payload_type = u32::from(table.payload_type);
+        let (mut expected, mut answer) = paper::open(payload_type, table.ssrc, table.origin);
+        let held = &table.segments[..table.count.min(128)];
+        let mut segments: Vec<_> = held.iter().map(segment).collect();
+        if table.count > 128 {
+            segments.resize(129, segments[127]);
+        }
+        expected.count = table.count;
+        expected.segments[..held.len()].copy_from_slice(held);
+        if answer.is_ok() && !paper::is_valid(&expected) {
+            answer = Err(16);
+        }
+        let (ssrc, origin) = (table.ssrc, table.origin);
+        let made = twimbor::Table::from_segments(payload_type, ssrc, origin, &segments);
+        assert_eq!(made.map_err(Refusal::number), answer.map(|()| library(&expected)));
+        tally.add(answer);
+    }
+    tally.finish("table of segments", &[12, 16]);
 }
 
 /// Any table, valid or not, gets one packet.
@@ -51,19 +85,19 @@ fn any_table_receives_as_on_paper() {
     let mut tally = Tally::default();
     let (mut failed_alone, mut known_when_full) = ([0; 7], 0);
     for i in 0..TABLES {
-        let mut table = match i % 3 {
+        let mut both = Both::of(match i % 3 {
             0 => tables::broken_table(random),
             _ => tables::table(random),
-        };
-        let failed = paper::failed(&table);
-        assert_eq!(table.is_valid(), paper::is_valid(&table), "{table:?}");
+        });
+        let failed = paper::failed(&both.paper);
+        assert_eq!(both.library.is_valid(), paper::is_valid(&both.paper), "{both:?}");
         if failed.iter().filter(|&&failed| failed).count() == 1 {
             failed_alone[failed.iter().position(|&failed| failed).unwrap()] += 1;
         }
-        let packet = packet_for(random, &table);
-        let answer = receive(&mut table, &packet);
+        let packet = packet_for(random, &both.paper);
+        let answer = receive(&mut both, &packet);
         tally.add(answer);
-        known_when_full += usize::from(table.count == 128 && answer == Ok(Taken::Known));
+        known_when_full += usize::from(both.paper.count == 128 && answer == Ok(Taken::Known));
     }
     tally.finish("receive", &[1, 2, 3, 4, 5, 6, 7, 8, 9, 10, 11, 16]);
     println!("tables that fail one test of the seven alone: {failed_alone:?}");
@@ -78,17 +112,18 @@ fn a_table_receives_many_as_on_paper() {
     let random = &Random::new(7);
     let mut tally = Tally::default();
     for _ in 0..RECEIVED / 500 {
-        let mut table = Table::open(random.below(128), random.u32(), random.u32()).unwrap();
-        let sent: Vec<_> = (0..8).flat_map(|_| sent(random, &table)).collect();
+        let (table, _) = paper::open(random.below(128), random.u32(), random.u32());
+        let mut both = Both::of(table);
+        let sent: Vec<_> = (0..8).flat_map(|_| sent(random, &both.paper)).collect();
         for _ in 0..500 {
             let mut packet = random.pick(&sent);
             if random.one_in(3) {
-                packet = packet_for(random, &table);
+                packet = packet_for(random, &both.paper);
             }
             if random.one_in(10) {
                 damage(random, &mut packet);
             }
-            tally.add(receive(&mut table, &packet));
+            tally.add(receive(&mut both, &packet));
         }
     }
     tally.finish("receive in turn", &[1, 2, 3, 4, 5, 6, 7, 8, 9, 10, 11]);

@@ -1,13 +1,12 @@
--- The passes that are left fall.
 use borrow.Author.Needs.{needs}
 use Rattle.bench_loops.proofs.bench_receive.Statement.{statement}
 use Rattle.bench_loops.proofs.bench_receive.Tie as tie
 
 abbrev Inv-loop : tie.InvT-loop
-Inv-loop packets passes u₀ k₀ u k = Unit {0}
+Inv-loop keys₀ heard₀ packets passes after₀ k₀ keys heard after k = Unit {0}
 
 abbrev μ-loop : tie.MeasureT-loop
-μ-loop packets passes u₀ k₀ u k = k
+μ-loop keys₀ heard₀ packets passes after₀ k₀ keys heard after k = k
 
 loop-holds : tie.Need-loop-holds Inv-loop μ-loop
 loop-holds c = search needs

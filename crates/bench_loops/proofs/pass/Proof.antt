@@ -1,4 +1,3 @@
--- The place stays within the buffer.
 use Prim.Native.Nat.{_-_, _≤_}
 use lib.ListN.{length}
 use borrow.Author.Needs.{needs}
@@ -6,10 +5,10 @@ use Rattle.bench_loops.proofs.pass.Statement.{statement}
 use Rattle.bench_loops.proofs.pass.Tie as tie
 
 abbrev Inv-loop : tie.InvT-loop
-Inv-loop packets u₀ at₀ u at = at ≤ length packets
+Inv-loop keys₀ heard₀ packets after₀ at₀ keys heard after at = at ≤ length packets
 
 abbrev μ-loop : tie.MeasureT-loop
-μ-loop packets u₀ at₀ u at = length packets - at
+μ-loop keys₀ heard₀ packets after₀ at₀ keys heard after at = length packets - at
 
 loop-holds : tie.Need-loop-holds Inv-loop μ-loop
 loop-holds c = search needs

@@ -1,11 +1,10 @@
 -- Each return is one of the refusals 16 and 13 in their order, or the event at the number.
-use borrow.Author.Needs.{needs}
 use Rattle.events.proofs.Laws.{table-events}
 use Rattle.events.proofs.event_at.Statement.{statement}
 use Rattle.events.proofs.event_at.Tie as tie
 
 is-valid-requires : tie.Need-is-valid-requires
-is-valid-requires c κs = search needs
+is-valid-requires c κs = search table-events
 
 returns : tie.Need-returns
 returns c = search table-events
@@ -14,16 +13,16 @@ returns-2 : tie.Need-returns-2
 returns-2 c = search table-events
 
 count-of-requires : tie.Need-count-of-requires
-count-of-requires c κs = search needs
+count-of-requires c κs = search table-events
 
 returns-3 : tie.Need-returns-3
 returns-3 c = search table-events
 
 sub-event-of : tie.Need-sub-event-of
-sub-event-of c = search needs
+sub-event-of c = search table-events
 
 event-of-requires : tie.Need-event-of-requires
-event-of-requires c κs = search needs
+event-of-requires c κs = search table-events
 
 returns-4 : tie.Need-returns-4
 returns-4 c = search table-events

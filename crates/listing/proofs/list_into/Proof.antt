@@ -1,6 +1,5 @@
-use mathlib.Core.Path.{sym, _∙_}
 use borrow.Author.Needs.{needs}
-use borrow.Author.Tests.{not-false}
+use Rattle.receive.proofs.Ways.{passed}
 use Rattle.listing.proofs.list_into.Statement.{statement}
 use Rattle.listing.proofs.list_into.Tie as tie
 
@@ -14,7 +13,7 @@ returns : tie.Need-returns
 returns c = search needs
 
 received-requires : tie.Need-received-requires
-received-requires c κs = sym (c .before .is-valid .ensures) ∙ not-false _ (c .if1 .left)
+received-requires c κs = search (needs, passed)
 
 listing-requires : tie.Need-listing-requires
 listing-requires c κs = search needs

@@ -1,8 +1,9 @@
 //! Packets: valid, with any form of header, damaged, and strange.
 
 use super::report;
+use crate::paper::table::{Segment, Table};
 use crate::random::Random;
-use twimbor::{Report, Segment, Table};
+use twimbor::Report;
 
 /// A packet that carries a report, with any form of header; now and then damaged, or just bytes.
 pub fn packet(random: &Random, report: &Report) -> Vec<u8> {
@@ -69,8 +70,8 @@ pub fn packet_for(random: &Random, table: &Table) -> Vec<u8> {
         0 => random.pick(&[0, 0x7FFF_FFFF, 0x8000_0000, 0xFFFF_FFFF]),
         1 => random.u32(),
         2 => random.u32() >> 1,
-        3 => near.offset.wrapping_add(65_535),
-        _ => near.offset,
+        3 => (near.offset as u32).wrapping_add(65_535),
+        _ => near.offset as u32,
     };
     let mut report = report(random);
     report.timestamp = table.origin.wrapping_add(offset);

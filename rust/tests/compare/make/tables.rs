@@ -1,16 +1,17 @@
 //! Tables, valid and not, and the records that lists are lent with.
 
+use crate::paper::table::{Segment, Table};
 use crate::random::Random;
 use std::collections::BTreeMap;
-use twimbor::{Event, Segment, Table};
+use twimbor::Event;
 
-/// A segment with any numbers, also those that no valid table holds.
+/// A segment with any numbers that a place can say: an offset of 56 bits and a volume of 14.
 pub fn any_segment(random: &Random) -> Segment {
     Segment {
-        offset: random.u32(),
+        offset: random.u64() >> (8 + random.below(40)),
         code: random.u8(),
         duration: random.u16(),
-        volume: random.u8(),
+        volume: random.u16() >> (2 + random.below(10)),
         ended: random.bool(),
         marked: random.bool(),
     }
@@ -32,17 +33,17 @@ pub fn table(random: &Random) -> Table {
     let small = random.index(6);
     let wanted = random.pick(&[small, small, random.index(129), 127, 128]);
     let (codes, marks, ends) = (1 + random.below(16), 1 + random.below(9), 2 + random.below(9));
-    let base = random.pick(&[0, 0x7FF0_0000, random.u32() >> 1]);
+    let base = u64::from(random.pick(&[0, 0x7FF0_0000, random.u32() >> 1]));
     let (mut held, mut last) = (BTreeMap::new(), Segment::default());
     while held.len() < wanted {
-        let grid = base.wrapping_add(65_535 * random.below(24));
-        let after_last = last.offset + u32::from(last.duration);
-        let any = random.pick(&[grid + 1, random.u32(), 0x7FFF_FFFF]);
+        let grid = base + 65_535 * u64::from(random.below(24));
+        let after_last = last.offset + u64::from(last.duration);
+        let any = random.pick(&[grid + 1, u64::from(random.u32()), 0x7FFF_FFFF]);
         last = Segment {
             offset: random.pick(&[grid, grid, grid, after_last, any]) % (1 << 31),
             code: random.pick(&[last.code, random.below(codes) as u8]),
             duration: random.pick(&[65_535, 65_535, 65_535, 65_534, random.u16().max(1)]),
-            volume: random.below(64) as u8,
+            volume: random.below(64) as u16,
             ended: random.one_in(ends),
             marked: random.one_in(marks),
         };
@@ -61,13 +62,10 @@ pub fn table(random: &Random) -> Table {
     }
 }
 
-/// An empty table: opened, or any other that is valid.
+/// An empty table: with zeros in all places, as opening leaves it, or any other that is valid.
 pub fn empty_table(random: &Random) -> Table {
-    let any = table(random);
-    if random.bool() {
-        return Table { count: 0, ..any };
-    }
-    Table::open(u32::from(any.payload_type), any.ssrc, any.origin).unwrap()
+    let any = Table { count: 0, ..table(random) };
+    if random.bool() { any } else { Table { segments: [Segment::default(); 128], ..any } }
 }
 
 /// A table with one test broken, or with any segment in one place. What is changed may be in a
@@ -81,9 +79,9 @@ pub fn broken_table(random: &Random) -> Table {
         1 => table.payload_type = random.pick(&[128, 255]),
         2 => table.segments[some].code = random.pick(&[16, 255]),
         3 => table.segments[some].duration = 0,
-        4 => table.segments[some].volume = random.pick(&[64, 255]),
+        4 => table.segments[some].volume = random.pick(&[64, 255, 256, 16_383]),
         5 => table.segments[some] = any_segment(random),
-        6 => table.segments[last].offset = random.pick(&[1 << 31, u32::MAX]),
+        6 => table.segments[last].offset = random.pick(&[1 << 31, 1 << 32, (1 << 56) - 1]),
         7 => table.segments[last] = table.segments[some],
         _ => table.segments.swap(last, some),
     }

@@ -1,7 +1,7 @@
 //! "From segments to events".
 
-use super::table::is_valid;
-use twimbor::{Event, Segment, Table};
+use super::table::{Segment, Table, is_valid};
+use twimbor::Event;
 
 /// The place of the segment that this one continues, if it continues one.
 fn continued(segments: &[Segment], this: &Segment) -> Option<usize> {
@@ -12,7 +12,7 @@ fn continued(segments: &[Segment], this: &Segment) -> Option<usize> {
     let earlier = (0..segments.len()).filter(|&i| earlier(&segments[i]));
     let nearest = earlier.max_by_key(|&i| segments[i].offset)?;
     let Segment { offset, duration, ended, .. } = segments[nearest];
-    let ends_there = u64::from(offset) + u64::from(duration) == u64::from(this.offset);
+    let ends_there = offset + u64::from(duration) == this.offset;
     (!ended && duration == 65_535 && ends_there).then_some(nearest)
 }
 
@@ -30,9 +30,9 @@ pub fn events(table: &Table) -> Result<Vec<Event>, u8> {
         let chain: Vec<&Segment> = chain.map(|i| &segments[i]).collect();
         events.push(Event {
             code: chain[0].code,
-            start: chain[0].offset,
+            start: chain[0].offset as u32,
             length: chain.iter().map(|s| u32::from(s.duration)).sum(),
-            volume: chain.iter().map(|s| s.volume).min().unwrap(),
+            volume: chain.iter().map(|s| s.volume).min().unwrap() as u8,
             began: chain[0].marked,
             ended: chain[chain.len() - 1].ended,
         });

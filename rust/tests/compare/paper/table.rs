@@ -2,7 +2,26 @@
 
 use super::packet::{header, report};
 use std::collections::BTreeMap;
-use twimbor::{Segment, Table};
+
+/// A segment. Its numbers are as wide as what a place of the library's table can say.
+#[derive(Clone, Copy, Debug, Default, PartialEq, Eq)]
+pub struct Segment {
+    pub offset: u64,
+    pub code: u8,
+    pub duration: u16,
+    pub volume: u16,
+    pub ended: bool,
+    pub marked: bool,
+}
+
+#[derive(Clone, Debug, PartialEq, Eq)]
+pub struct Table {
+    pub payload_type: u8,
+    pub ssrc: u32,
+    pub origin: u32,
+    pub count: usize,
+    pub segments: [Segment; 128],
+}
 
 /// The empty table; under a refusal, one of zeros.
 pub fn open(payload_type: u32, ssrc: u32, origin: u32) -> (Table, Result<(), u8>) {
@@ -53,7 +72,7 @@ pub fn receive(table: &mut Table, packet: &[u8]) -> Result<bool, u8> {
         return Err(6);
     }
     let report = report(&header)?;
-    let offset = (i64::from(report.timestamp) - i64::from(table.origin)).rem_euclid(1 << 32) as u32;
+    let offset = (i64::from(report.timestamp) - i64::from(table.origin)).rem_euclid(1 << 32) as u64;
     if offset >= 1 << 31 {
         return Err(10);
     }
@@ -61,7 +80,7 @@ pub fn receive(table: &mut Table, packet: &[u8]) -> Result<bool, u8> {
         offset,
         code: report.code as u8,
         duration: report.duration as u16,
-        volume: report.volume as u8,
+        volume: report.volume as u16,
         ended: report.ended,
         marked: report.marker,
     };

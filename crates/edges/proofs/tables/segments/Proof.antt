@@ -1,4 +1,4 @@
--- Each loop counts to its end.
+-- The loop counts to its end.
 use Prim.Native.Nat.{_-_}
 use borrow.Author.Needs.{needs}
 use Rattle.edges.proofs.tables.segments.Statement.{statement}
@@ -18,6 +18,12 @@ mul-segment c = search needs
 
 element-copy-out-segment : tie.Need-element-copy-out-segment Inv-loop μ-loop
 element-copy-out-segment c = search needs
+
+mul-segment-2 : tie.Need-mul-segment-2 Inv-loop μ-loop
+mul-segment-2 c = search needs
+
+element-copy-out-segment-2 : tie.Need-element-copy-out-segment-2 Inv-loop μ-loop
+element-copy-out-segment-2 c = search needs
 
 segment-requires : tie.Need-segment-requires Inv-loop μ-loop
 segment-requires c κs = search needs
@@ -43,6 +49,8 @@ segments-spec =
     loop-holds
     mul-segment
     element-copy-out-segment
+    mul-segment-2
+    element-copy-out-segment-2
     segment-requires
     add-i
     loop-less

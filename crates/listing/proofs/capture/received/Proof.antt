@@ -1,17 +1,19 @@
+-- The table goes on passing the tests, and what is kept of the buffer stays within it.
 use Prim.Native.Nat.{_≤_}
 use mathlib.Core.Path.{_≡_}
 use mathlib.Core.Bool.{true}
-use borrow.Author.Needs.{needs}
 use lib.ListN.{length}
-use Rattle.model.specs.Table.{valid}
+use Rattle.model.specs.Table.{tableOf, valid}
+use borrow.Author.Needs.{needs}
 use Rattle.listing.proofs.capture.received.Statement.{statement}
 use Rattle.listing.proofs.capture.received.Tie as tie
 
 abbrev Inv-loop : tie.InvT-loop
-Inv-loop file b₀ p₀ kept₀ turns₀ b p kept turns = (valid (p .table) ≡ true) × (kept ≤ length b) × (length b ≡ 131072)
+Inv-loop keys₀ heard₀ file b₀ p₀ kept₀ turns₀ keys heard b p kept turns =
+    (valid (tableOf (p .head) keys heard) ≡ true) × (kept ≤ length b) × (length b ≡ 131072)
 
 abbrev μ-loop : tie.MeasureT-loop
-μ-loop file b₀ p₀ kept₀ turns₀ b p kept turns = turns
+μ-loop keys₀ heard₀ file b₀ p₀ kept₀ turns₀ keys heard b p kept turns = turns
 
 buffer-requires : tie.Need-buffer-requires Inv-loop μ-loop
 buffer-requires c κs = search needs

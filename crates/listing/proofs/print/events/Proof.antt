@@ -1,13 +1,14 @@
+-- There are at most 128 numbers to ask for.
 use Prim.Native.Nat.{_-_}
 use borrow.Author.Needs.{needs}
 use Rattle.listing.proofs.print.events.Statement.{statement}
 use Rattle.listing.proofs.print.events.Tie as tie
 
 abbrev Inv-loop : tie.InvT-loop
-Inv-loop t k₀ k = Unit {0}
+Inv-loop head keys heard k₀ k = Unit {0}
 
 abbrev μ-loop : tie.MeasureT-loop
-μ-loop t k₀ k = 128 - k
+μ-loop head keys heard k₀ k = 128 - k
 
 loop-holds : tie.Need-loop-holds Inv-loop μ-loop
 loop-holds c = search needs

@@ -1,0 +1,2 @@
+pub mod Hears
+pub mod Ways

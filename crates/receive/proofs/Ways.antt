@@ -1,0 +1,178 @@
+-- Each way through the receiving call, as a law over a head, two columns and a packet's bytes.
+use Prim.Native.Nat.{ℕ, suc, _-_}
+use mathlib.Core.Path.{_≡_, refl, sym, _∙_, ap}
+use mathlib.Core.Bool.{Bool, true, false, not, cond}
+use mathlib.Core.List.{List, [], _∷_, List·Memᴰ·cases-cons, List·Memᴰ·not-nil}
+use mathlib.Core.Logic.{⊎-elim}
+use native.Mathlib.Omega.{arith}
+use borrow.Author.Needs.{needs}
+use borrow.Author.Tests.{eq-eqb, ne-eqb, leb-true, not-true, not-false}
+use lib.Dec.{eqb, leb}
+use lib.ListN.{getD, take, drop}
+use mir.Val.{Fits}
+use mir.Syntax.{w8}
+use Rattle.model.specs.declared.Table.{Table}
+use Rattle.model.specs.declared.Head.{Head}
+use Rattle.model.specs.declared.Received.{Received}
+use Rattle.model.specs.Refusals.{_orElse_}
+use Rattle.model.specs.Packet.{headerRefusal, payloadRefusal, payload, marker, payloadType, timestamp, ssrc, code}
+use Rattle.model.specs.Table.{keyOf, heardOf, segmentOf, tableOf, holding, valid, noRoom}
+use Rattle.model.specs.Receive.{offset, refusedWith, refusing, taken, heardIn, receiveRefusal, receive, refuses}
+use Rattle.model.specs.Sizes.{BytesFit}
+use Rattle.model.proofs.Basics.{both-none}
+use Rattle.model.proofs.Packets.{read-in-range}
+use Rattle.model.proofs.Numbers.{segment-back}
+use Rattle.model.proofs.Receives.{taken-then, refused-leaves, taken-unless, takes}
+use Rattle.model.proofs.Runs.{taken-valid}
+use Rattle.packet.specs.declared.header.Header.{Header}
+use Rattle.packet.specs.Stages.{headerOf, refusalOfHeader}
+use Rattle.packet.proofs.Laws.{Found, found-says, refused-says, payload-there, header-whole, starts-before-end, ends-within}
+use Rattle.packet.specs.declared.header.Header.the-variants as header
+use Rattle.table.specs.Columns.{takenInto}
+use Rattle.receive.specs.declared.hearing.Hearing.{Hearing}
+use Rattle.receive.specs.declared.hearing.Hearing.the-variants as hearing
+use Rattle.receive.specs.Sayings.{sayingRefusal, hearingOf, refusalOfHearing}
+use Rattle.receive.specs.Receives.{Receives}
+use Rattle.receive.proofs.Hears.{unheard-says, heard-says}
+
+-- THE TABLE GOES ON PASSING THE TESTS
+
+pub bytes-fit : (bs : List ℕ) → ((i : ℕ) → Fits w8 (getD bs i 0)) → BytesFit bs
+bytes-fit [] f x m = absurd (List·Memᴰ·not-nil m)
+bytes-fit (y ∷ bs) f x m = ⊎-elim (λ q. rw q (omega (arith, f 0))) (λ k. bytes-fit bs (λ i. f (suc i)) x k) (List·Memᴰ·cases-cons m)
+
+stays-valid : (t : Table) (bs : List ℕ) → valid t ≡ true → BytesFit bs → valid (receive t bs .table) ≡ true
+stays-valid t bs v f = go (refuses (receive t bs .answer)) refl
+  where
+    go : (b : Bool) → refuses (receive t bs .answer) ≡ b → valid (receive t bs .table) ≡ true
+    go true q = rw (refused-leaves t bs q) v
+    go false q = let n = taken-unless t bs q in rw (takes t bs n) (taken-valid t bs v f (taken-then t bs n))
+
+-- 16
+
+module _ (h : Head) (keys heard bs : List ℕ) (b : Bool) (is : b ≡ valid (tableOf h keys heard)) where
+  module _ (bad : not b ≡ true) (a : Received) (e : a ≡ refusedWith 16 (h .count)) where
+    fails : valid (tableOf h keys heard) ≡ false
+    fails = sym is ∙ not-true b bad
+
+    pub bad-table : a ≡ receive (tableOf h keys heard) bs .answer
+    unfolding receive receiveRefusal
+    bad-table = rw fails e
+
+    pub bad-table-stays : tableOf (holding (a .count) h) keys heard ≡ receive (tableOf h keys heard) bs .table
+    unfolding receive receiveRefusal
+    bad-table-stays = rw (fails, e)
+
+pub passed : (t : Table) (b : Bool) → b ≡ valid t → not b ≡ false → valid t ≡ true
+passed t b is ok = sym is ∙ not-false b ok
+
+-- 1 TO 11
+
+module _ (h : Head) (keys heard bs : List ℕ) (v : valid (tableOf h keys heard) ≡ true) where
+  abbrev t : Table
+  t = tableOf h keys heard
+
+  refused : (n : ℕ) → receiveRefusal t bs ≡ n → eqb n 0 ≡ false → (a : Received) → a ≡ refusedWith n (h .count) → Receives h keys heard bs a keys heard
+  unfolding receive
+  refused n q z a e = record { answer = rw (q, z) e; table = rw (q, z, e); passes = rw e v }
+
+  module _ (f : Header) (stage : f ≡ headerOf bs) where
+    pub unread : (n : ℕ) → f ≡ header.Refused n → (k : ℕ) → k ≡ refusalOfHeader f → (a : Received) → a ≡ refusedWith k (h .count)
+        → Receives h keys heard bs a keys heard
+    unfolding receiveRefusal
+    unread n r k e a is =
+        let s = refused-says bs f stage n r in
+        let same : k ≡ headerRefusal bs = e ∙ ap refusalOfHeader r ∙ s .1 in
+        refused (headerRefusal bs) (rw (v, s .0)) (s .0) a (is ∙ ap (λ (m : ℕ). refusedWith m (h .count)) same)
+
+    module _ (start end : ℕ) (r : f ≡ header.Found start end) (type : ℕ) (is-type : type ≡ payloadType bs) where
+      found : Found bs start end
+      found = found-says bs f stage start end r
+
+      pub other-type : (type ≡ h .«payload_type» → ⊥) → (a : Received) → a ≡ refusedWith 5 (h .count) → Receives h keys heard bs a keys heard
+      unfolding receiveRefusal
+      other-type n = refused 5 (rw (v, found .unrefused, ne-eqb (payloadType bs) (h .«payload_type») (λ e. n (is-type ∙ e)))) refl
+
+      module _ (of-type : type ≡ h .«payload_type») (from : ℕ) (is-source : from ≡ ssrc bs) where
+        right-type : eqb (payloadType bs) (h .«payload_type») ≡ true
+        right-type = eq-eqb (payloadType bs) (h .«payload_type») (sym is-type ∙ of-type)
+
+        pub other-source : (from ≡ h .ssrc → ⊥) → (a : Received) → a ≡ refusedWith 6 (h .count) → Receives h keys heard bs a keys heard
+        unfolding receiveRefusal
+        other-source n = refused 6 (rw (v, found .unrefused, right-type, ne-eqb (ssrc bs) (h .ssrc) (λ e. n (is-source ∙ e)))) refl
+
+        -- the packet is the table's; what does its payload say?
+        module _ (of-source : from ≡ h .ssrc) (time : ℕ) (is-time : time ≡ timestamp bs) (m : Bool) (is-m : m ≡ marker bs)
+            (said : Hearing) (stage-2 : said ≡ hearingOf (h .origin) time m (take (end - start) (drop start bs))) where
+          right-source : eqb (ssrc bs) (h .ssrc) ≡ true
+          right-source = eq-eqb (ssrc bs) (h .ssrc) (sym is-source ∙ of-source)
+
+          heard-there : said ≡ hearingOf (h .origin) (timestamp bs) (marker bs) (payload bs)
+          heard-there = stage-2 ∙ rw (payload-there bs f stage start end r, is-time, is-m)
+
+          abbrev saying-number : ℕ
+          saying-number = sayingRefusal (h .origin) (timestamp bs) (payload bs)
+
+          -- 7 to 10 by what the payload says, then 11
+          by-saying : receiveRefusal t bs ≡ (saying-number orElse cond (noRoom t (heardIn t bs)) 11 0)
+          unfolding receiveRefusal sayingRefusal heardIn
+          by-saying =
+              rw (v, found .unrefused, right-type, right-source)
+              (go (eqb (payloadRefusal (payload bs)) 0) (leb 0x8000_0000 (offset (h .origin) (timestamp bs))) refl)
+            where
+              go : (b c : Bool) → eqb (payloadRefusal (payload bs)) 0 ≡ b
+                  → cond b (cond c 10 (cond (noRoom t (heardIn t bs)) 11 0)) (payloadRefusal (payload bs))
+                  ≡ (cond b (cond c 10 0) (payloadRefusal (payload bs)) orElse cond (noRoom t (heardIn t bs)) 11 0)
+              go true true e = refl
+              go true false e = refl
+              go false c e = rw e
+
+          pub says-nothing : (n : ℕ) → said ≡ hearing.Refused n → (k : ℕ) → k ≡ refusalOfHearing said → (a : Received) → a ≡ refusedWith k (h .count)
+              → Receives h keys heard bs a keys heard
+          says-nothing n x k e a is =
+              let s = unheard-says (h .origin) (timestamp bs) (marker bs) (payload bs) said heard-there n x in
+              let same : k ≡ saying-number = e ∙ ap refusalOfHearing x ∙ s .1 in
+              refused saying-number (by-saying ∙ rw (s .0)) (s .0) a (is ∙ ap (λ (m : ℕ). refusedWith m (h .count)) same)
+
+          -- nothing before the table refuses it
+          module _ (key told : ℕ) (x : said ≡ hearing.Heard key told) (fit : BytesFit bs) where
+            says : (saying-number ≡ 0) × (key ≡ keyOf (heardIn t bs)) × (told ≡ heardOf (heardIn t bs))
+            unfolding heardIn
+            says = heard-says (h .origin) (timestamp bs) (marker bs) (payload bs) said heard-there key told x
+
+            same-report : segmentOf key told ≡ heardIn t bs
+            unfolding sayingRefusal heardIn
+            same-report =
+                let q = read-in-range bs fit (both-none (payloadRefusal (payload bs)) _ (says .0) .0) in
+                rw (says .1, says .2) (segment-back (heardIn t bs) (omega (arith, leb-true (code (payload bs)) 15 (q .0))) (omega (arith, q .2)))
+
+            to-the-table : receive t bs ≡ takenInto t (heardIn t bs)
+            unfolding receive takenInto
+            to-the-table = rw (by-saying, says .0) (go (noRoom t (heardIn t bs)))
+              where
+                go : (b : Bool) → cond (eqb (cond b 11 0) 0) (taken t (heardIn t bs)) (refusing (cond b 11 0) t) ≡ cond b (refusing 11 t) (taken t (heardIn t bs))
+                go true = refl
+                go false = refl
+
+            pub takes-it : (a : Received) (keys′ heard′ : List ℕ) → a ≡ takenInto t (segmentOf key told) .answer
+                → tableOf (holding (a .count) h) keys′ heard′ ≡ takenInto t (segmentOf key told) .table → Receives h keys heard bs a keys′ heard′
+            takes-it a keys′ heard′ e₁ e₂ =
+                let q : takenInto t (segmentOf key told) ≡ receive t bs = ap (takenInto t) same-report ∙ sym to-the-table in
+                let w : tableOf (holding (a .count) h) keys′ heard′ ≡ receive t bs .table = e₂ ∙ (λ i. q i .table) in
+                record { answer = e₁ ∙ (λ i. q i .answer); table = w; passes = ap valid w ∙ stays-valid t bs v fit }
+
+pub ruleset ways = (
+  needs,
+  header-whole,
+  starts-before-end,
+  ends-within,
+  bytes-fit,
+  unread,
+  other-type,
+  other-source,
+  says-nothing,
+  takes-it,
+  bad-table,
+  bad-table-stays,
+  passed,
+)

@@ -1,0 +1,53 @@
+use Rattle.receive.proofs.Hears.{hears}
+use Rattle.receive.proofs.hearing.hear.Statement.{statement}
+use Rattle.receive.proofs.hearing.hear.Tie as tie
+use Rattle.packet.proofs.payload.payload_of.Reads as payload-of-reads
+use Rattle.packet.proofs.payload.payload_refusal.Reads as payload-refusal-reads
+use Rattle.receive.proofs.hearing.offset_of.Reads as offset-of-reads
+use Rattle.table.proofs.numbers.heard_of.Reads as heard-of-reads
+use Rattle.table.proofs.numbers.key_of.Reads as key-of-reads
+
+payload-of-requires : tie.Need-payload-of-requires
+payload-of-requires c κs = search hears
+
+enum-known-read : tie.Need-enum-known-read
+enum-known-read c = search hears
+
+enum-told : tie.Need-enum-told
+enum-told c = search hears
+
+payload-refusal-requires : tie.Need-payload-refusal-requires
+payload-refusal-requires c κs = search hears
+
+returns : tie.Need-returns
+returns c = search hears
+
+offset-of-requires : tie.Need-offset-of-requires
+offset-of-requires c κs = search hears
+
+returns-2 : tie.Need-returns-2
+returns-2 c = search hears
+
+key-of-requires : tie.Need-key-of-requires
+key-of-requires c κs = search hears
+
+heard-of-requires : tie.Need-heard-of-requires
+heard-of-requires c κs = search hears
+
+returns-3 : tie.Need-returns-3
+returns-3 c = search hears
+
+pub hear-spec : {M : Type 1} → statement M
+hear-spec =
+    tie.close
+    (tie.spec
+    payload-of-requires
+    enum-known-read
+    enum-told
+    payload-refusal-requires
+    returns
+    offset-of-requires
+    returns-2
+    key-of-requires
+    heard-of-requires
+    returns-3)

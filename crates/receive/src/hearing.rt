@@ -1,0 +1,59 @@
+// What a payload says, at its timestamp and with its marker, as it is heard from an origin. No table takes part.
+ghost use mathlib.Core.Path.{_≡_};
+ghost use Rattle.model.specs.Receive.{offset};
+ghost use Rattle.receive.specs.Sayings.{hearingOf, refusalOfHearing};
+use packet::payload::Payload;
+use packet::payload::payload_of;
+use packet::payload::payload_refusal;
+use table::numbers::heard_of;
+use table::numbers::key_of;
+
+// The two numbers of the segment that a report says something of.
+pub enum Hearing {
+    Heard { key: u64, told: u32 },
+    Refused(u8),
+}
+
+// (timestamp - origin) modulo 2^32.
+fn offset_of(origin: u32, timestamp: u32) -> u32
+    ensures { λ r. ⌜ r ≡ offset origin timestamp ⌝ }
+{
+    if origin <= timestamp {
+        return timestamp - origin;
+    }
+    timestamp + (0xffff_ffff - origin) + 1
+}
+
+// Hears a payload, or refuses it with 7 to 10.
+pub fn hear(origin: u32, timestamp: u32, marked: bool, payload: &[u8]) -> Hearing
+    ensures { λ r. ⌜ r ≡ hearingOf origin timestamp marked (now (payload .entry)) ⌝ }
+{
+    let read = payload_of(payload);
+    let Payload::Heard {
+        code,
+        ended,
+        volume,
+        duration,
+    } = read
+    else {
+        return Hearing::Refused(payload_refusal(read));
+    };
+    let offset = offset_of(origin, timestamp);
+    if 0x8000_0000 <= offset {
+        return Hearing::Refused(model::OFFSET_TOO_LARGE);
+    }
+    Hearing::Heard {
+        key: key_of(offset, code),
+        told: heard_of(duration, volume, ended, marked),
+    }
+}
+
+// The number of a hearing's refusal; 0 if there is none.
+pub fn hearing_refusal(h: Hearing) -> u8
+    ensures { λ r. ⌜ r ≡ refusalOfHearing h ⌝ }
+{
+    let Hearing::Refused(n) = h else {
+        return 0;
+    };
+    n
+}

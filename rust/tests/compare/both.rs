@@ -1,0 +1,49 @@
+//! One table twice: the library's, and the one on paper.
+
+use crate::paper::table::{Segment, Table};
+
+#[derive(Clone, Debug)]
+pub struct Both {
+    pub library: twimbor::Table,
+    pub paper: Table,
+}
+
+/// The two numbers that a place holds, as `include/twimbor.h` draws them.
+fn numbers(segment: &Segment) -> (u64, u32) {
+    let Segment { offset, code, duration, volume, ended, marked } = *segment;
+    let flags = if ended { 0x1_0000 } else { 0 } + if marked { 0x2_0000 } else { 0 };
+    (offset * 256 + u64::from(code), u32::from(duration) + flags + u32::from(volume) * 0x4_0000)
+}
+
+impl Both {
+    pub fn of(paper: Table) -> Both {
+        Both { library: library(&paper), paper }
+    }
+
+    /// All fields and all places are the same, those above the number held too; and the segments
+    /// held are read as they are, a number too large for its field as the field's largest.
+    pub fn compare(&self) {
+        assert_eq!(self.library, library(&self.paper), "{self:?}");
+        let held = self.paper.segments.iter().take(self.paper.count);
+        let read = self.library.segments();
+        assert_eq!(read.len(), held.len());
+        assert!(read.eq(held.map(segment)), "{self:?}");
+    }
+}
+
+/// The library's table that holds what one on paper does.
+pub fn library(paper: &Table) -> twimbor::Table {
+    let &Table { payload_type, ssrc, origin, count, ref segments } = paper;
+    twimbor::Table {
+        head: twimbor::Head { payload_type, ssrc, origin, count },
+        keys: segments.each_ref().map(|segment| numbers(segment).0),
+        heard: segments.each_ref().map(|segment| numbers(segment).1),
+    }
+}
+
+/// The library's segment that says what one on paper does.
+pub fn segment(paper: &Segment) -> twimbor::Segment {
+    let &Segment { offset, code, duration, volume, ended, marked } = paper;
+    let (offset, volume) = (offset.min(0xFFFF_FFFF) as u32, volume.min(255) as u8);
+    twimbor::Segment { offset, code, duration, volume, ended, marked }
+}
