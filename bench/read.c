@@ -1,9 +1,7 @@
 /* Reading a 16-byte packet: ours against plain C behind the same boundary, in turns, the best of many rounds of each. */
-#include "../include/twimbor.h"
+#include "plain/plain.h"
 #include <stdio.h>
 #include <time.h>
-
-twimbor_read_result plain_read(const uint8_t *p, size_t n);
 
 enum { PACKETS = 256, TURNS = 200, ROUNDS = 600 };
 static uint8_t packets[PACKETS][16];

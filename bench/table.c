@@ -1,5 +1,5 @@
 /* Receiving and listing: ours against plain C, both in place and with the same tests, in turns, the best of many rounds. */
-#include "../tests/plain.h"
+#include "plain/plain.h"
 #include <stdio.h>
 #include <stdlib.h>
 #include <string.h>
@@ -7,7 +7,7 @@
 
 /* The packets of a buffer, 16 bytes each, so many times over, in a Rattle loop: by the library's call, and by its step for a table
  * that is known to pass the tests. Each answers how many segments are held at the end. */
-typedef uint64_t loop(twimbor_head head, uint64_t *keys, uint32_t *heard, const uint8_t *packets, size_t length, uint32_t passes);
+typedef uint64_t loop(twimbor_head head, uint64_t *keys, uint32_t *heard, const uint8_t *packets, size_t bytes, uint32_t passes);
 loop bench_receive, bench_receive_valid;
 
 enum { PACKETS = 256, ROUNDS = 400 };
@@ -76,6 +76,11 @@ static void receiving(int held, double limit)
         best[LOOP] / best[PLAIN], best[LOOP_VALID], best[PLAIN_VALID], best[LOOP_VALID] / best[PLAIN_VALID]);
 }
 
+static bool same_event(twimbor_event a, twimbor_event b)
+{
+    return a.code == b.code && a.start == b.start && a.length == b.length && a.volume == b.volume && a.began == b.began && a.ended == b.ended;
+}
+
 /* Each segment an event of its own; unmarked ones are looked up for what they continue. */
 static void listing(int held, bool marked)
 {
@@ -86,16 +91,17 @@ static void listing(int held, bool marked)
         s.marked = marked;
         twimbor_set_segment(&t, i, s);
     }
-    static twimbor_event out[128];
+    static twimbor_event out[128], plain_out[128];
     double ours = 1e18, plain = 1e18;
     for (int round = 0; round < ROUNDS; round++) {
         double start = now();
         for (int turn = 0; turn < LISTS; turn++) if (twimbor_list(&t, out, 128).events != (size_t)held) exit(1);
         least(&ours, (now() - start) / LISTS);
         start = now();
-        for (int turn = 0; turn < LISTS; turn++) if (plain_list(&t, out, 128).events != (size_t)held) exit(1);
+        for (int turn = 0; turn < LISTS; turn++) if (plain_list(&t, plain_out, 128).events != (size_t)held) exit(1);
         least(&plain, (now() - start) / LISTS);
     }
+    for (int k = 0; k < held; k++) if (!same_event(out[k], plain_out[k])) exit(1);
     printf("list, %3d events, %8s: %6.0f ns, plain C by the same algorithm %6.0f ns, ratio %.2f, at most 2.5\n", held, marked ? "marked" : "unmarked", ours, plain, ours / plain);
 }
 

@@ -1,12 +1,14 @@
 /* Twimbor: RTP packets that carry one telephone-event report (RFC 4733).
  *
  * Every function checks its own input and answers a refusal's number, 0 if nothing is refused. Under a refusal nothing lent
- * changes, but for the table of twimbor_open, and the values answered are zeros. Link with the archive that `rt staticlib twimbor`
- * writes.
+ * changes, but for the table of twimbor_open, and the values answered are zeros, but for the count of twimbor_received. Link with
+ * the archive that `rt staticlib twimbor` writes.
  *
- * A pointer with its length stands for a slice, a pointer to a table or a column for all of it. What it points to may not be
- * written by anything else during the call, and what the call writes may not overlap anything else that is lent to it. No
- * pointer may be null, not even with a length of 0. */
+ * A pointer with a number of `bytes` or `records` stands for that many, a pointer to a table or a column for all of it. What it
+ * points to may not be written by anything else during the call, and what the call writes may not overlap anything else that is
+ * lent to it. No pointer may be null, not even with 0 bytes or records.
+ *
+ * A `length`, `duration` or `period` is always in timestamp units. */
 #ifndef TWIMBOR_H
 #define TWIMBOR_H
 
@@ -72,19 +74,19 @@ typedef struct {
     uint8_t refusal;
 } twimbor_count_result;
 
-/* Reads a packet of `length` bytes: the one report that it carries. CSRC list, extension and padding are passed over.
+/* Reads a packet: the one report that it carries. CSRC list, extension and padding are passed over.
  *
  * Refused, in this order: 1 with fewer than 12 bytes; 2 if the version is not 2; 3 if the CSRC list or the extension runs past
  * the end; 4 if P is set and the pad count is 0 or above the bytes after header, CSRC list and extension; 7 if the payload is
  * not 4 bytes; 8 if the code is above 15; 9 if the duration is 0. The report is then all zeros. */
-twimbor_read_result twimbor_read(const uint8_t *packet, size_t length);
+twimbor_read_result twimbor_read(const uint8_t *packet, size_t bytes);
 
-/* Writes the 16 bytes of a report's packet at the start of the output of `length` bytes; the bytes after them stay. No CSRC list,
- * extension or padding is written. twimbor_read gives the report back.
+/* Writes the 16 bytes of a report's packet at the start of the output; the bytes after them stay. No CSRC list, extension or
+ * padding is written. twimbor_read gives the report back.
  *
  * Answers 0, or refuses, in this order: 12 if the payload type is above 127, the code above 15, the volume above 63, or the
  * duration 0 or above 65535; 14 if the output has fewer than 16 bytes. All of the output then stays. */
-uint8_t twimbor_write(twimbor_report report, uint8_t *output, size_t length);
+uint8_t twimbor_write(twimbor_report report, uint8_t *output, size_t bytes);
 
 /* How many reports a plan has. An event is cut into segments of 65535 units; a segment of L units is reported at each multiple of
  * the period below L, and at L three times.
@@ -93,12 +95,12 @@ uint8_t twimbor_write(twimbor_report report, uint8_t *output, size_t length);
  * period 0 or above 65535. The number of reports is then 0. */
 twimbor_count_result twimbor_report_count(twimbor_plan plan);
 
-/* Writes the 16 bytes of report k of a plan, counted from 1, at the start of the output of `length` bytes; the bytes after them
- * stay. The first report carries the marker, and on the last segment the second and third report of its full length carry E.
+/* Writes the 16 bytes of report k of a plan, counted from 1, at the start of the output; the bytes after them stay. The first
+ * report carries the marker, and on the last segment the second and third report of its full length carry E.
  *
  * Answers 0, or refuses, in this order: 12 if a number of the plan is out of its range, as for twimbor_report_count; 13 if k is
  * 0 or above the number of reports; 14 if the output has fewer than 16 bytes. All of the output then stays. */
-uint8_t twimbor_write_report(twimbor_plan plan, uint32_t k, uint8_t *output, size_t length);
+uint8_t twimbor_write_report(twimbor_plan plan, uint32_t k, uint8_t *output, size_t bytes);
 
 /* What a table was opened with, and how many segments it holds. */
 typedef struct {
@@ -125,7 +127,7 @@ typedef struct {
 typedef struct {
     uint32_t offset;                /* (timestamp - origin) modulo 2^32; below 2^31 */
     uint8_t code;                   /* 0 to 15 */
-    uint16_t duration;              /* the largest heard; 1 to 65535 */
+    uint16_t duration;              /* the largest heard; 1 to 65535 timestamp units */
     uint8_t volume;                 /* the smallest number heard, the loudest; 0 to 63 */
     bool ended;                     /* E was heard */
     bool marked;                    /* M was heard */
@@ -141,8 +143,8 @@ typedef struct {
 typedef struct {
     uint8_t code;                   /* the key */
     uint32_t start;                 /* an offset */
-    uint32_t length;
-    uint8_t volume;                 /* the smallest number of its segments */
+    uint32_t length;                /* the sum of its segments' durations, in timestamp units */
+    uint8_t volume;                 /* the smallest number of its segments, the loudest */
     bool began;                     /* its first segment was marked */
     bool ended;                     /* its last segment has E */
 } twimbor_event;
@@ -166,10 +168,10 @@ typedef struct {
  * functions after them do the same with a twimbor_table, and say what each call does. */
 twimbor_opened twimbor_open_table(uint32_t payload_type, uint32_t ssrc, uint32_t origin);
 bool twimbor_is_valid_columns(twimbor_head head, const uint64_t *keys, const uint32_t *heard);
-twimbor_received twimbor_receive_columns(twimbor_head head, uint64_t *keys, uint32_t *heard, const uint8_t *packet, size_t length);
+twimbor_received twimbor_receive_columns(twimbor_head head, uint64_t *keys, uint32_t *heard, const uint8_t *packet, size_t bytes);
 twimbor_event_result twimbor_event_at_columns(twimbor_head head, const uint64_t *keys, const uint32_t *heard, uint32_t k);
 twimbor_listed twimbor_list_columns(twimbor_head head, const uint64_t *keys, const uint32_t *heard, twimbor_event *list,
-                                    size_t length);
+                                    size_t records);
 
 /* Opens an empty table for the packets of one payload type and SSRC, with zeros in all places. Offsets are counted from the
  * timestamp `origin`.
@@ -190,16 +192,16 @@ static inline bool twimbor_is_valid(const twimbor_table *table)
     return twimbor_is_valid_columns(table->head, table->keys, table->heard);
 }
 
-/* Receives a packet of `length` bytes, and takes its report into the table: the pair of offset and code keeps the largest
- * duration, the smallest volume number, whether E and whether M was heard. The sequence number plays no part. `is_new` tells
- * whether the pair was not held before. A new segment moves those after it up by one place; the places above them stay.
+/* Receives a packet, and takes its report into the table: the pair of offset and code keeps the largest duration, the smallest
+ * volume number, whether E and whether M was heard. The sequence number plays no part. `is_new` tells whether the pair was not
+ * held before. A new segment moves those after it up by one place; the places above them stay.
  *
  * Refused, in this order: 16 if the table fails its tests; 1 to 4 as by twimbor_read; 5 if it is another payload type than the
  * table's; 6 if it is another SSRC; 7 to 9 as by twimbor_read; 10 if the offset is 2^31 or more; 11 if 128 segments are held
  * and this pair is none of them. The table then is as it was, in every place. */
-static inline twimbor_received twimbor_receive(twimbor_table *table, const uint8_t *packet, size_t length)
+static inline twimbor_received twimbor_receive(twimbor_table *table, const uint8_t *packet, size_t bytes)
 {
-    twimbor_received received = twimbor_receive_columns(table->head, table->keys, table->heard, packet, length);
+    twimbor_received received = twimbor_receive_columns(table->head, table->keys, table->heard, packet, bytes);
     table->head.count = received.count;
     return received;
 }
@@ -214,14 +216,14 @@ static inline twimbor_event_result twimbor_event_at(const twimbor_table *table, 
     return twimbor_event_at_columns(table->head, table->keys, table->heard, k);
 }
 
-/* Writes all events, by start, then code, into the first records of a lent list of `length` records, and answers how many there
- * are; the other records stay. A table has at most 128 events.
+/* Writes all events, by start, then code, into the first records of a lent list, and answers how many there are; the other
+ * records stay. A table has at most 128 events.
  *
  * Refused, in this order: 16 if the table fails its tests; 15 if the list has fewer records than there are events. The number
  * of events is then 0, and all records stay. */
-static inline twimbor_listed twimbor_list(const twimbor_table *table, twimbor_event *list, size_t length)
+static inline twimbor_listed twimbor_list(const twimbor_table *table, twimbor_event *list, size_t records)
 {
-    return twimbor_list_columns(table->head, table->keys, table->heard, list, length);
+    return twimbor_list_columns(table->head, table->keys, table->heard, list, records);
 }
 
 /* The segment at place i, counted from 0, of a table that passes the tests; all zeros if the table holds none there. In a table

@@ -2,7 +2,7 @@
 //! same with `Result` and [`Refusal`](crate::Refusal).
 //!
 //! Each call answers the refusal's number, 0 if nothing is refused. Under a refusal nothing lent
-//! changes, and the values answered are zeros.
+//! changes, and the values answered are zeros, but for the count of [`Received`].
 
 use crate::{Event, Head, PLACES, Plan, Report, Table};
 
@@ -74,10 +74,10 @@ type Heard = [u32; PLACES];
 // The compiler cannot check these lines against the library. They follow include/twimbor.h, and the
 // tests compare the structs' places with the header's and the calls' answers with document 01.
 unsafe extern "C" {
-    fn twimbor_read(packet: *const u8, length: usize) -> ReadResult;
-    fn twimbor_write(report: Report, output: *mut u8, length: usize) -> u8;
+    fn twimbor_read(packet: *const u8, bytes: usize) -> ReadResult;
+    fn twimbor_write(report: Report, output: *mut u8, bytes: usize) -> u8;
     safe fn twimbor_report_count(plan: Plan) -> CountResult;
-    fn twimbor_write_report(plan: Plan, k: u32, output: *mut u8, length: usize) -> u8;
+    fn twimbor_write_report(plan: Plan, k: u32, output: *mut u8, bytes: usize) -> u8;
     safe fn twimbor_open_table(payload_type: u32, ssrc: u32, origin: u32) -> Opened;
     safe fn twimbor_is_valid_columns(head: Head, keys: &Keys, heard: &Heard) -> bool;
     fn twimbor_receive_columns(
@@ -85,7 +85,7 @@ unsafe extern "C" {
         keys: &mut Keys,
         heard: &mut Heard,
         packet: *const u8,
-        length: usize,
+        bytes: usize,
     ) -> Received;
     safe fn twimbor_event_at_columns(head: Head, keys: &Keys, heard: &Heard, k: u32)
     -> EventResult;
@@ -94,12 +94,12 @@ unsafe extern "C" {
         keys: &Keys,
         heard: &Heard,
         list: *mut Event,
-        length: usize,
+        records: usize,
     ) -> Listed;
 }
 
 // A slice is never null, not even an empty one, points to as many elements as it says, and a lent
-// one is written by nobody else: that is all that the header asks of a pointer with its length.
+// one is written by nobody else: that is all that the header asks of a pointer with its number.
 
 /// Reads a packet.
 pub fn read(packet: &[u8]) -> ReadResult {

@@ -1,5 +1,5 @@
--- Each way through the definitions of Places and Answer, as a law over two columns and their places.
-use Prim.Native.Nat.{ℕ, zero, suc, _+_, _-_, _*_, _≤_, _<_, _%_, min}
+-- Each way through the definitions of Places, and through the two calls, as a law over two columns and their places.
+use Prim.Native.Nat.{ℕ, suc, _+_, _-_, _*_, _≤_, _<_, _%_, min}
 use mathlib.Core.Path.{_≡_, refl, sym, _∙_, ap, ap₂}
 use mathlib.Core.Bool.{Bool, true, false, not, cond}
 use mathlib.Core.List.{List, [], _∷_}
@@ -15,12 +15,11 @@ use Rattle.model.specs.declared.Table.{Table}
 use Rattle.model.specs.declared.Event.{Event}
 use Rattle.model.specs.Limits.{isFull}
 use Rattle.model.specs.Refusals.{noEvent, answered, refusedBy}
-use Rattle.model.specs.Table.{segmentAt, segmentsFrom, tableOf, validSegment, valid}
-use Rattle.model.specs.Events.{units, loudness, lastEnded, eventOf, continues, continuesNearest, continuing, eventsFrom}
-use Rattle.model.specs.List.{events, eventAt}
+use Rattle.model.specs.Table.{segmentAt, segmentsFrom, tableOf, valid}
+use Rattle.model.specs.Events.{units, loudest, lastEnded, eventOf, continues, continuesNearest, continuing, eventsFrom}
+use Rattle.model.specs.List.{events, eventAt, listAnswer}
 use Rattle.model.proofs.Tables.{tests-passed, valid-from}
 use Rattle.events.specs.Places.{InRanges, earlier, begins, later, lengthened, eventFrom, eventsIn}
-use Rattle.events.specs.Answer.{answerFor}
 
 -- ONE SEGMENT AND THE NEXT
 
@@ -36,7 +35,7 @@ module _ (p s : Segment) (unmarked : s .marked ≡ false) (unended : p .ended �
 pub one : (s : Segment)
     → record { code = s .code; start = s .offset; length = s .duration; volume = s .volume; began = s .marked; ended = s .ended }
     ≡ eventOf s []
-unfolding units loudness lastEnded
+unfolding units loudest lastEnded
 one s = refl
 
 pub more : (v : Event) (s : Segment) (m : ℕ) → m ≡ min (v .volume) (s .volume)
@@ -55,20 +54,20 @@ grown-by : (v : Event) (s : Segment) (ts : List Segment)
       code = v .code;
       start = v .start;
       length = v .length + units s ts;
-      volume = min (v .volume) (loudness s ts);
+      volume = min (v .volume) (loudest s ts);
       began = v .began;
       ended = lastEnded s ts;
     }
-unfolding units loudness lastEnded
+unfolding units loudest lastEnded
 grown-by v s [] = refl
 grown-by v s (u ∷ us) =
     let l : v .length + s .duration + units u us ≡ v .length + (s .duration + units u us) = omega arith in
-    let m : min (min (v .volume) (s .volume)) (loudness u us) ≡ min (v .volume) (min (s .volume) (loudness u us)) = omega arith in
+    let m : min (min (v .volume) (s .volume)) (loudest u us) ≡ min (v .volume) (min (s .volume) (loudest u us)) = omega arith in
     grown-by (lengthened v s) u us
     ∙ (λ i. record { code = v .code; start = v .start; length = l i; volume = m i; began = v .began; ended = lastEnded u us })
 
 grown-alone : (s : Segment) (ts : List Segment) → grown (eventOf s []) ts ≡ eventOf s ts
-unfolding units loudness lastEnded
+unfolding units loudest lastEnded
 grown-alone s [] = refl
 grown-alone s (t ∷ ts) = grown-by (eventOf s []) t ts
 
@@ -330,17 +329,14 @@ module _ (t : Table) (ok : Bool) (test : ok ≡ valid t) where
             ap answered e ∙ rw (passes-test passed, ne-eqb k 0 some, le-ltb (length (events t)) k (rw all at h))
 
   module _ (room : ℕ) where
-    pub list-fails-test : not ok ≡ true → record { refusal = 16; events = 0 } ≡ answerFor t room
-    unfolding answerFor
+    pub list-fails-test : not ok ≡ true → record { refusal = 16; events = 0 } ≡ listAnswer t room
     list-fails-test h = rw (sym test ∙ not-true ok h)
 
     module _ (passed : not ok ≡ false) (n : ℕ) (all : n ≡ length (events t)) where
-      pub list-small : room < n → record { refusal = 15; events = 0 } ≡ answerFor t room
-      unfolding answerFor
+      pub list-small : room < n → record { refusal = 15; events = 0 } ≡ listAnswer t room
       list-small h = rw (passes-test passed, lt-ltb room (length (events t)) (rw all at h))
 
-      pub list-fits : n ≤ room → record { refusal = 0; events = n } ≡ answerFor t room
-      unfolding answerFor
+      pub list-fits : n ≤ room → record { refusal = 0; events = n } ≡ listAnswer t room
       list-fits h = rw (all, passes-test passed, le-ltb room (length (events t)) (rw all at h))
 
 pub ruleset table-events = (

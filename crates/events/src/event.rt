@@ -1,13 +1,14 @@
 // One event, of the segments that make it.
 ghost use mathlib.Core.Path.{_≡_};
 ghost use mathlib.Core.List.{[]};
-ghost use Prim.Native.Nat.{_+_, _*_, _<_, _≤_, min};
+ghost use Prim.Native.Nat.{_+_, _*_, _<_, _≤_};
 ghost use Rattle.model.specs.Events.{eventOf};
 ghost use Rattle.events.specs.Places.{InRanges, lengthened, eventFrom};
 use super::segments::continues;
 use super::segments::segment_at;
 use model::Event;
 use model::Segment;
+use table::numbers::smaller;
 
 // The event of one segment that nothing continues.
 fn alone(first: Segment) -> Event
@@ -23,16 +24,6 @@ fn alone(first: Segment) -> Event
     }
 }
 
-// The smaller of two volume numbers, which is the louder.
-fn louder(a: u8, b: u8) -> u8
-    ensures { λ r. ⌜ r ≡ min a b ⌝ }
-{
-    if a < b {
-        return a;
-    }
-    b
-}
-
 // An event that one segment more continues.
 fn lengthened(v: Event, next: Segment) -> Event
     requires { ⌜ v .length ≤ 128 * 65535 ⌝ }
@@ -42,7 +33,7 @@ fn lengthened(v: Event, next: Segment) -> Event
         code: v.code,
         start: v.start,
         length: v.length + (next.duration as u32),
-        volume: louder(v.volume, next.volume),
+        volume: smaller(v.volume as u32, next.volume as u32) as u8,
         began: v.began,
         ended: next.ended,
     }

@@ -5,8 +5,7 @@ ghost use Prim.Native.Nat.{_<_};
 ghost use lib.ListN.{length, getD};
 ghost use Rattle.model.specs.Refusals.{toldEvent, noEvent};
 ghost use Rattle.model.specs.Table.{tableOf, valid};
-ghost use Rattle.model.specs.List.{events, eventAt};
-ghost use Rattle.events.specs.Answer.{answerFor};
+ghost use Rattle.model.specs.List.{events, eventAt, listAnswer};
 
 mod event;
 mod segments;
@@ -65,7 +64,7 @@ pub fn answer_for<'a>(
     heard: &'a [u32; 128],
     room: usize,
 ) -> Listed
-    ensures { λ r. ⌜ r ≡ answerFor (tableOf head (now (keys .entry)) (now (heard .entry))) room ⌝ }
+    ensures { λ r. ⌜ r ≡ listAnswer (tableOf head (now (keys .entry)) (now (heard .entry))) room ⌝ }
 {
     if !table::is_valid(head, keys, heard) {
         return Listed {

@@ -1,7 +1,7 @@
 -- Each way through the definitions of Frame and Session, as a law over a buffer and its places.
 use Prim.Native.Nat.{ℕ, suc, _+_, _-_, _*_, _≤_, _<_}
 use mathlib.Core.Path.{_≡_, refl, sym, _∙_, ap}
-use mathlib.Core.Bool.{Bool, true, false, not, cond, _&&_, false≢true}
+use mathlib.Core.Bool.{Bool, true, false, not, cond, _&&_, and-false, false≢true}
 use mathlib.Core.List.{List, [], _∷_}
 use native.Mathlib.Numerals.{add-one}
 use native.Mathlib.Omega.{arith}
@@ -11,6 +11,7 @@ use lib.Dec.{eqb, leb, ltb}
 use lib.ListN.{length, getD, drop, length-drop, drop-of-length-le, List·getD-eq-default}
 use lib.Seq.{drop-cons}
 use Rattle.model.specs.Packet.{byte}
+use Rattle.model.proofs.Basics.{and-then}
 use Rattle.framing.specs.declared.frame.Frame.{Frame}
 use Rattle.framing.specs.declared.frame.Frame.the-variants.{Whole, Part, Nothing}
 use Rattle.framing.specs.declared.session.Session.the-variants.{Given, Bad}
@@ -18,14 +19,6 @@ use Rattle.framing.specs.declared.session.Line.{Line}
 use Rattle.framing.specs.declared.session.Line.the-variants.{Read, Wrong}
 use Rattle.framing.specs.Frame.{frameAt}
 use Rattle.framing.specs.Session.{isDigit, digitsOf, followedBy, value, isDecimal, lineOf, numberAt, startsWith, lineAt, typeName, sourceName, originName, sessionOf}
-
-and-false : (b : Bool) → (b && false) ≡ false
-and-false true = refl
-and-false false = refl
-
-pub and-right : (b : Bool) {c : Bool} → (b && c) ≡ true → c ≡ true
-and-right true e = e
-and-right false e = absurd (false≢true e)
 
 -- FRAMES
 
@@ -208,7 +201,7 @@ fits : (name l : List ℕ) → startsWith name l ≡ true → length name ≤ le
 unfolding startsWith
 fits [] l e = omega arith
 fits (c ∷ cs) [] e = absurd (false≢true e)
-fits (c ∷ cs) (b ∷ l) e = omega (arith, fits cs l (and-right (eqb b c) e))
+fits (c ∷ cs) (b ∷ l) e = omega (arith, fits cs l (and-then (eqb b c) (startsWith cs l) e .1))
 
 module _ (name bs : List ℕ) (at : ℕ) where
   pub name-longer : at ≤ length bs → length bs - at < length name → false ≡ startsWith name (drop at bs)

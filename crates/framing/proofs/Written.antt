@@ -11,15 +11,12 @@ use borrow.Author.Tests.{le-leb, lt-leb, eq-eqb, ne-eqb, eqb-true, leb-true, leb
 use lib.Dec.{eqb, leb}
 use lib.ListN.{length, getD, drop, length-append, length-drop}
 use lib.Seq.{drop-cons, drop-length, drop-append-seam, getD-append-seam, getD-drop, drop-drop}
-use Rattle.framing.proofs.Laws.{and-right, inside, no-line, line-within}
+use Rattle.model.proofs.Basics.{and-then}
+use Rattle.framing.proofs.Laws.{inside, no-line, line-within}
 use Rattle.framing.specs.declared.session.Session.the-variants.{Given, Bad}
 use Rattle.framing.specs.declared.session.Line.{Line}
 use Rattle.framing.specs.declared.session.Line.the-variants.{Read, Wrong}
 use Rattle.framing.specs.Session.{isDigit, digitsOf, followedBy, value, decimals, isDecimal, numberAt, startsWith, lineAt, typeName, sourceName, originName, after, sessionOf, Decimal, StartsWithLine, SessionText}
-
-and-left : (b c : Bool) → (b && c) ≡ true → b ≡ true
-and-left true c e = refl
-and-left false c e = absurd (false≢true e)
 
 -- DIGITS OF A NUMBER
 
@@ -98,10 +95,10 @@ value-cons d ds = let z : 0 * 10 + (d - 48) ≡ d - 48 = omega arith in ap (λ (
 
 module _ (b : ℕ) (h : isDigit b ≡ true) where
   at-least : 48 ≤ b
-  at-least = leb-true 48 b (and-left (leb 48 b) (leb b 57) h)
+  at-least = leb-true 48 b (and-then (leb 48 b) (leb b 57) h .0)
 
   at-most : b ≤ 57
-  at-most = leb-true b 57 (and-right (leb 48 b) h)
+  at-most = leb-true b 57 (and-then (leb 48 b) (leb b 57) h .1)
 
 -- they say less than their places hold
 below-places : (l : List ℕ) → value (digitsOf l) < 10 ^ length (digitsOf l)
@@ -174,7 +171,7 @@ positive (suc n) e = omega arith
 
 no-zero : (first k : ℕ) → isDecimal first k ≡ true → 1 < k → first ≡ 48 → ⊥
 no-zero first k t more z =
-    false≢true (rw (lt-leb k 1 more, eq-eqb first 48 z) at (and-right (not (eqb k 0)) t))
+    false≢true (rw (lt-leb k 1 more, eq-eqb first 48 z) at (and-then (not (eqb k 0)) (leb k 1 || not (eqb first 48)) t .1))
 
 module _ (bs : List ℕ) (at : ℕ) where
   at-front : (i : ℕ) → getD bs (at + i) 0 ≡ getD (drop at bs) i 0
@@ -209,7 +206,7 @@ module _ (bs : List ℕ) (at : ℕ) where
       -- the parts of the test
       decimal : isDecimal (getD bs at 0) (length ds) ≡ true → Decimal (value ds) ds
       decimal t =
-          let some : 0 < length ds = (let z = and-left (not (eqb (length ds) 0)) (leb (length ds) 1 || not (eqb (getD bs at 0) 48)) t in positive (length ds) z) in
+          let some : 0 < length ds = positive (length ds) (and-then (not (eqb (length ds) 0)) (leb (length ds) 1 || not (eqb (getD bs at 0) 48)) t .0) in
           let k : length ds - 1 + 1 ≡ length ds = omega (arith, some) in
           record {
             more = length ds - 1;
@@ -244,8 +241,8 @@ unfolding startsWith
 starts-then [] l e = refl
 starts-then (c ∷ cs) [] e = absurd (false≢true e)
 starts-then (c ∷ cs) (b ∷ l) e =
-    let same : b ≡ c = eqb-true b c (and-left (eqb b c) (startsWith cs l) e) in
-    rw same (ap (λ (x : List ℕ). c ∷ x) (starts-then cs l (and-right (eqb b c) e)))
+    let same : b ≡ c = eqb-true b c (and-then (eqb b c) (startsWith cs l) e .0) in
+    rw same (ap (λ (x : List ℕ). c ∷ x) (starts-then cs l (and-then (eqb b c) (startsWith cs l) e .1)))
 
 module _ (bs : List ℕ) (at : ℕ) (name : List ℕ) (n : ℕ) where
   line-read : (rest : List ℕ) → StartsWithLine name n (drop at bs) rest → (e : ℕ) × (lineAt name bs at ≡ Read n e) × (drop e bs ≡ rest)

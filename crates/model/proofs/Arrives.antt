@@ -2,7 +2,7 @@
 -- of one of the events' segments, of which there are at most 128.
 use Prim.Native.Nat.{ℕ, suc, _+_, _≤_}
 use mathlib.Core.Path.{_≡_, refl, sym, ap, _∙_}
-use mathlib.Core.Bool.{Bool, true, false, not, _&&_}
+use mathlib.Core.Bool.{Bool, true, false, not, _&&_, false≢true}
 use mathlib.Core.List.{List, [], _∷_, List·Memᴰ·head, List·Memᴰ·tail, List·Memᴰ·cases-cons, List·Memᴰ·not-nil}
 use mathlib.Core.Logic.{_⊎_, inl, inr, ⊎-elim}
 use native.Mathlib.Omega.{arith}
@@ -19,17 +19,17 @@ use Rattle.model.specs.Segments.{Derived}
 use Rattle.model.specs.Table.{held, holds, noRoom, put}
 use Rattle.model.specs.Receive.{heardIn, receiveRefusal, receive, refuses}
 use Rattle.model.specs.Sizes.{Sent, planOf, segmentsInAll, Sizes, BytesFit, FitsTypes}
-use Rattle.model.specs.Demands.{arrivals, Handed, sent, stranger, bytesOf, Admitted, packets}
+use Rattle.model.specs.Demands.{arrivals, Empty, Handed, sent, stranger, bytesOf, Admitted, packets, SentPacket}
 use Rattle.model.proofs.Order.{_≺_, Alike, alike-sym, alike-trans, ≺-trans, ≺-alike, alike-≺, ≺-not-alike, Rising, rises}
 use Rattle.model.proofs.Segments.{derived-put}
 use Rattle.model.proofs.Keeping.{keeps-alike}
 use Rattle.model.proofs.Packets.{packet-header, packet-payload, packet-fits}
 use Rattle.model.proofs.Tables.{tests-passed, held-length, put-new}
 use Rattle.model.proofs.Receives.{Taken, taken-if, refused-leaves, takes, taken-not-refused}
-use Rattle.model.proofs.Runs.{Reached, heard-from, step-taken, arrivals-refused, arrivals-taken}
+use Rattle.model.proofs.Runs.{Reached, start, heard-from, step-taken, arrivals-refused, arrivals-taken}
 use Rattle.model.proofs.Plans.{Says}
 use Rattle.model.proofs.Recovered.{ApartFrom, apart-from, segmentsSent, allSent, in-all, all-rising}
-use Rattle.model.proofs.Sends.{plan-ranges, said, said-says, said-before, sent-later, sent-bytes, sent-in-range, sent-report, heard-as-said}
+use Rattle.model.proofs.Sends.{plans-for, plan-ranges, said, said-says, said-before, sent-later, sent-bytes, sent-in-range, sent-report, heard-as-said}
 use Rattle.model.proofs.Basics.{Mem}
 
 -- FEWER PAIRS, FEWER SEGMENTS
@@ -65,11 +65,11 @@ fewer (x ∷ a) (y ∷ b) g h f = go (List·Memᴰ·cases-cons (like .1)) (fewer
         above z (inl e) = rw e first
         above z (inr k) = ≺-trans first (g .0 z k)
 
-pub length-all : (t : Table) (es : List Sent) → length (allSent segmentSize t es) ≡ segmentsInAll t es
+pub length-all : (t : Table) (es : List Sent) → length (allSent segmentSize (planOf t) es) ≡ segmentsInAll t es
 unfolding allSent segmentsInAll
 length-all t [] = refl
 length-all t (e ∷ es) =
-    length-append (segmentsSent segmentSize t e) (allSent segmentSize t es)
+    length-append (segmentsSent segmentSize (planOf t) e) (allSent segmentSize (planOf t) es)
     ∙ (λ i. (sym (ap length (sent-later t e)) ∙ length-map (cut segmentSize (planOf t e)) _) i + length-all t es i)
 
 -- ALONG THE CALLS
@@ -80,7 +80,7 @@ module _ (t : Table) (es : List Sent) (sizes : Sizes t es) (fits : FitsTypes t e
 
   -- every report says something of a segment of the events
   abbrev pub ToldOf : Segment → Type 0
-  ToldOf r = (g : Segment) × Mem g (allSent segmentSize t es) × Says g r
+  ToldOf r = (g : Segment) × Mem g (allSent segmentSize (planOf t) es) × Says g r
 
   pub record Along (rs : List Segment) (u : Table) : Type 0 where
     pub reached : Reached t rs u
@@ -88,14 +88,24 @@ module _ (t : Table) (es : List Sent) (sizes : Sizes t es) (fits : FitsTypes t e
     pub source : u .head .ssrc ≡ t .head .ssrc
     pub told : (r : Segment) → Mem r rs → ToldOf r
 
+  -- an empty table has heard nothing
+  pub along-empty : Empty t → Along [] t
+  along-empty e = record { reached = start t e; type = refl; source = refl; told = λ r m. absurd (List·Memᴰ·not-nil m) }
+
   pub told-sent : (e : Sent) (k : ℕ) → Mem e es → 1 ≤ k → k ≤ length (reports (planOf t e)) → ToldOf (said t e k)
   told-sent e k m low high =
       let q = said-says t e (sizes .ranges e m) k low high in
-      (q .0, in-all segmentSize t es e (q .0) m (q .1), q .2)
+      (q .0, in-all segmentSize (planOf t) es e (q .0) m (q .1), q .2)
+
+  -- from the table's origin a packet is heard as it was said
+  pub heard-sent : (e : Sent) (k : ℕ) → Mem e es → 1 ≤ k → k ≤ length (reports (planOf t e)) → heardIn t (bytesOf t (sent e k)) ≡ said t e k
+  heard-sent e k m low high =
+      let r = sizes .ranges e m in
+      ap (heardIn t) (sent-bytes t e r k low high) ∙ heard-as-said t e r k low high (fits .ssrc) (fits .origin) (sizes .near e m)
 
   -- what would be held has its like among the segments of the events
   pairs-known : {rs l : List Segment} → Derived rs l → ((r : Segment) → Mem r rs → ToldOf r) → (x : Segment) → Mem x l
-      → (g : Segment) × Mem g (allSent segmentSize t es) × Alike x g
+      → (g : Segment) × Mem g (allSent segmentSize (planOf t) es) × Alike x g
   pairs-known d told x m =
       let h = d .attained x m .longest in
       let q = told (h .0) (h .1) in
@@ -110,8 +120,8 @@ module _ (t : Table) (es : List Sent) (sizes : Sizes t es) (fits : FitsTypes t e
       told : (q : Segment) → Mem q (r ∷ rs) → ToldOf q
       told q m = ⊎-elim (λ (e : q ≡ r). rw e k) (λ n. a .told q n) (List·Memᴰ·cases-cons m)
 
-      few : length (put r (held u)) ≤ length (allSent segmentSize t es)
-      few = fewer (put r (held u)) (allSent segmentSize t es) (rises (put r (held u)) (d .rises)) (all-rising segmentSize t (omega arith) 0 es apart) (pairs-known d told)
+      few : length (put r (held u)) ≤ length (allSent segmentSize (planOf t) es)
+      few = fewer (put r (held u)) (allSent segmentSize (planOf t) es) (rises (put r (held u)) (d .rises)) (all-rising segmentSize (planOf t) (omega arith) (plans-for t) 0 es apart) (pairs-known d told)
 
       long : length (held u) ≡ u .head .count
       long = held-length u
@@ -154,9 +164,7 @@ module _ (t : Table) (es : List Sent) (sizes : Sizes t es) (fits : FitsTypes t e
     pub along-sent : Along (said t e k ∷ rs) (receive u (bytesOf t (sent e k)) .table)
     along-sent =
         let n = sent-taken in
-        let h : heardIn t (bytesOf t (sent e k)) ≡ said t e k =
-        ap (heardIn t) (sent-bytes t e (sizes .ranges e m) k low high)
-        ∙ heard-as-said t e (sizes .ranges e m) k low high (fits .ssrc) (fits .origin) (sizes .near e m) in
+        let h = heard-sent e k m low high in
         record {
           reached = rw h at (step-taken t u (bytesOf t (sent e k)) rs (a .reached) sent-fits (taken-not-refused u (bytesOf t (sent e k)) n));
           type = ap (λ (x : Table). x .head .«payload_type») (takes u (bytesOf t (sent e k)) n) ∙ a .type;
@@ -169,22 +177,24 @@ module _ (t : Table) (es : List Sent) (sizes : Sizes t es) (fits : FitsTypes t e
 
   -- WHAT ARRIVES
 
-  -- a packet of one of the events
-  abbrev pub SentPacket : List ℕ → Type 0
-  SentPacket p = (e : Sent) × (k : ℕ) × Mem e es × (1 ≤ k) × (k ≤ length (reports (planOf t e))) × (p ≡ bytesOf t (sent e k))
+  -- a packet that is refused is none of the events'
+  refused-not-sent : (rs : List Segment) (u : Table) (b : List ℕ) → Along rs u → refuses (receive u b .answer) ≡ true → SentPacket es t b → ⊥
+  refused-not-sent rs u b a r s =
+      let n : receiveRefusal u b ≡ 0 = rw (s .5) (sent-taken rs u a (s .0) (s .1) (s .2) (s .3) (s .4)) in
+      false≢true (sym (taken-not-refused u b n) ∙ r)
 
-  -- a sent packet is one of the events', and arrives
+  -- a sent packet is one of the events', and arrives; a stranger is none of theirs
   abbrev pub Arrived : List (List ℕ) → Handed → Type 0
   Arrived ps (sent e k) = Mem e es × (1 ≤ k) × (k ≤ length (reports (planOf t e))) × Mem (bytesOf t (sent e k)) ps
-  Arrived ps (stranger b) = Unit {0}
+  Arrived ps (stranger b) = SentPacket es t b → ⊥
 
   arrived-more : (p : List ℕ) (ps : List (List ℕ)) (h : Handed) → Arrived ps h → Arrived (p ∷ ps) h
   arrived-more p ps (sent e k) a = (a .0, a .1, a .2, List·Memᴰ·tail (a .3))
-  arrived-more p ps (stranger b) a = tt
+  arrived-more p ps (stranger b) a = a
 
   pub record Outcome (hs : List Handed) (u : Table) : Type 0 where
     pub all : (h : Handed) → Mem h hs → Arrived (arrivals u (packets t hs)) h
-    pub only : (p : List ℕ) → Mem p (arrivals u (packets t hs)) → SentPacket p
+    pub only : (p : List ℕ) → Mem p (arrivals u (packets t hs)) → SentPacket es t p
 
   pub outcome : (hs : List Handed) (rs : List Segment) (u : Table) → Along rs u → Admitted es t u hs → Outcome hs u
   unfolding arrivals Admitted
@@ -206,6 +216,6 @@ module _ (t : Table) (es : List Sent) (sizes : Sizes t es) (fits : FitsTypes t e
     where
       after : Outcome hs (receive u b .table) → arrivals u (b ∷ packets t hs) ≡ arrivals (receive u b .table) (packets t hs) → Outcome (stranger b ∷ hs) u
       after ih q = record {
-        all = λ h m. rw q (⊎-elim (λ (x : h ≡ stranger b). rw x tt) (λ n. ih .all h n) (List·Memᴰ·cases-cons m));
+        all = λ h m. rw q (⊎-elim (λ (x : h ≡ stranger b). rw x (refused-not-sent rs u b a (w .0))) (λ n. ih .all h n) (List·Memᴰ·cases-cons m));
         only = λ p m. ih .only p (rw q at m);
       }

@@ -1,6 +1,6 @@
 -- DEMAND 3, whole, and its corollary. What arrives is what was sent, so the table holds the segments of the events, and the
 -- list is the events. The table after the calls follows from the arrivals alone, so equal arrivals mean equal events.
-use Prim.Native.Nat.{ℕ, _+_, _%_, _<_, _≤_}
+use Prim.Native.Nat.{ℕ, _+_, _*_, _%_, _<_, _≤_}
 use mathlib.Core.Path.{_≡_, refl, sym, ap, _∙_}
 use mathlib.Core.Bool.{Bool, true, false, cond}
 use mathlib.Core.List.{List, [], map, List·Memᴰ·not-nil, Memᴰ·cast}
@@ -14,12 +14,12 @@ use Rattle.model.specs.declared.Table.{Table}
 use Rattle.model.specs.declared.Opened.{Opened}
 use Rattle.model.specs.Limits.{segmentSize, isFull}
 use Rattle.model.specs.Refusals.{none, outOfRange}
-use Rattle.model.specs.Plan.{fullSegments, cut, reports, planInRange}
+use Rattle.model.specs.Plan.{fullSegments, restUnits, cut, reports, reportAt, planInRange}
 use Rattle.model.specs.Segments.{rising, segmentsOf}
 use Rattle.model.specs.Table.{segmentsFrom, emptyTable, opened, held, allValid, valid}
 use Rattle.model.specs.Receive.{heardIn}
 use Rattle.model.specs.Events.{eventsOf}
-use Rattle.model.specs.Sizes.{Sent, planOf, Sizes, BytesFit}
+use Rattle.model.specs.Sizes.{asListed, Sent, planOf, Sizes, BytesFit}
 use Rattle.model.specs.Demands.{
   tableAfter,
   arrivals,
@@ -33,23 +33,22 @@ use Rattle.model.specs.Demands.{
   Admitted,
   Needed,
   Delivered,
-  asListed,
   Demand-3,
   Demand-3-corollary,
 }
 use Rattle.model.proofs.Order.{rising-one}
 use Rattle.model.proofs.Segments.{is-segmentsOf}
-use Rattle.model.proofs.Runs.{Reached, start, filled, heard-from, lists-events}
-use Rattle.model.proofs.Cuts.{cut-place, cut-units, one-first, one-last, later}
+use Rattle.model.proofs.Runs.{Reached, filled, heard-from, lists-events}
+use Rattle.model.proofs.Cuts.{InCut, cut-place, cut-units, one-first, one-last, later}
 use Rattle.model.proofs.Plans.{Says, sayings-first}
 use Rattle.model.proofs.Recovered.{segmentsSent, allSent, of-all, in-all, all-rising, events-of-all, Witness, recovered}
-use Rattle.model.proofs.Sends.{plan-ranges, sayingAt, report-is, said, said-says, said-before, sent-bytes, sent-later, heard-as-said}
-use Rattle.model.proofs.Arrives.{apart, ToldOf, Along, told-sent, sent-fits, Outcome, outcome}
+use Rattle.model.proofs.Sends.{plans-for, plan-ranges, sayingAt, report-is, said, said-says, said-before, sent-later}
+use Rattle.model.proofs.Arrives.{apart, ToldOf, Along, along-empty, told-sent, heard-sent, sent-fits, Outcome, outcome}
 use Rattle.model.proofs.Basics.{noSegment, Mem, mem-map, map-mem}
 
 module _ (t : Table) (es : List Sent) (hs : List Handed) (d : Delivered t es hs) where
   along : Along t es (d .sizes) (d .fits) [] t
-  along = record { reached = start t (d .empty); type = refl; source = refl; told = λ r m. absurd (List·Memᴰ·not-nil m) }
+  along = along-empty t es (d .sizes) (d .fits) (d .empty)
 
   what-arrives : Outcome t es (d .sizes) (d .fits) hs t
   what-arrives = outcome t es (d .sizes) (d .fits) hs [] t along (d .admitted)
@@ -62,17 +61,12 @@ module _ (t : Table) (es : List Sent) (hs : List Handed) (d : Delivered t es hs)
   pub final : Reached t (reportsTaken t (packets t hs)) (tableAfter t (packets t hs))
   final = filled t (packets t hs) (d .empty) arrivals-fit
 
-  heard-sent : (e : Sent) (k : ℕ) → Mem e es → 1 ≤ k → k ≤ length (reports (planOf t e)) → heardIn t (bytesOf t (sent e k)) ≡ said t e k
-  heard-sent e k m low high =
-      let r = d .sizes .ranges e m in
-      ap (heardIn t) (sent-bytes t e r k low high) ∙ heard-as-said t e r k low high (d .fits .ssrc) (d .fits .origin) (d .sizes .near e m)
-
   -- every report taken says something of a segment of the events
   told : (r : Segment) → Mem r (reportsTaken t (packets t hs)) → ToldOf t es (d .sizes) (d .fits) r
   told r m =
       let p = map-mem (heardIn t) (arrivals t (packets t hs)) r m in
       let q = what-arrives .only (p .0) (p .1) in
-      let e : r ≡ said t (q .0) (q .1) = p .2 ∙ ap (heardIn t) (q .5) ∙ heard-sent (q .0) (q .1) (q .2) (q .3) (q .4) in
+      let e : r ≡ said t (q .0) (q .1) = p .2 ∙ ap (heardIn t) (q .5) ∙ heard-sent t es (d .sizes) (d .fits) (q .0) (q .1) (q .2) (q .3) (q .4) in
       rw e (told-sent t es (d .sizes) (d .fits) (q .0) (q .1) (q .2) (q .3) (q .4))
 
   -- a report handed over is among those taken
@@ -84,14 +78,15 @@ module _ (t : Table) (es : List Sent) (hs : List Handed) (d : Delivered t es hs)
   heard : (e : Sent) (k : ℕ) → Mem (sent e k) hs → Heard e k
   heard e k m =
       let q = what-arrives .all (sent e k) m in
+      let h = heard-sent t es (d .sizes) (d .fits) e k (q .0) (q .1) (q .2) in
       record {
         low = q .1;
         high = q .2;
-        taken = Memᴰ·cast (sym (heard-sent e k (q .0) (q .1) (q .2))) (mem-map (heardIn t) (arrivals t (packets t hs)) (bytesOf t (sent e k)) (q .3));
+        taken = Memᴰ·cast (sym h) (mem-map (heardIn t) (arrivals t (packets t hs)) (bytesOf t (sent e k)) (q .3));
       }
 
   -- WHAT WAS NEEDED IS WHAT EACH SEGMENT HAS TO HAVE
-  module _ (e : Sent) (m : Mem e es) (g : Segment) (i : Mem g (segmentsSent segmentSize t e)) where
+  module _ (e : Sent) (m : Mem e es) (g : Segment) (i : Mem g (segmentsSent segmentSize (planOf t) e)) where
     abbrev rs : List Segment
     rs = reportsTaken t (packets t hs)
 
@@ -115,40 +110,62 @@ module _ (t : Table) (es : List Sent) (hs : List Handed) (d : Delivered t es hs)
         let same : q .0 ≡ g = one-last segmentSize (planOf t e) (fullSegments segmentSize (planOf t e)) (e .start) true (q .0) g (q .1) i (q .2 .ended last .0) h in
         (said t e (y .0), k .taken, rw same at (q .2), last)
 
-    full : (b : Bool) → g .ended ≡ b → (r : Segment) × Mem r rs × Says g r × (r .duration ≡ g .duration)
-    full true h = let y = ended h in (y .0, y .1, y .2, y .2 .ended (y .3) .1)
-    full false h =
+    -- a report with a segment's timestamp says something of that segment
+    timestamp-tells : (c : Segment) → g ≡ later (e .start) c → (k : ℕ) → Heard e k
+        → reportAt (planOf t e) k .timestamp ≡ (planOf t e .start + c .offset) % 0x1_0000_0000 → Says g (said t e k)
+    timestamp-tells c moved k h stamp = rw same at (q .2)
+      where
+        q : (x : Segment) × Mem x (segmentsSent segmentSize (planOf t) e) × Says x (said t e k)
+        q = said-says t e range k (h .low) (h .high)
+
+        at : (planOf t e .start + sayingAt (planOf t e) k .offset) % 0x1_0000_0000 ≡ (planOf t e .start + c .offset) % 0x1_0000_0000
+        at = sym (ap (λ (x : Report). x .timestamp) (report-is (planOf t e) k (h .low) (h .high))) ∙ stamp
+
+        place : (x : Segment) → Mem x (segmentsSent segmentSize (planOf t) e)
+            → InCut (planOf t e) (e .start) (e .start + (fullSegments segmentSize (planOf t e) * segmentSize + restUnits segmentSize (planOf t e))) x
+        place = cut-place segmentSize (planOf t e) (omega arith) (fullSegments segmentSize (planOf t e)) (e .start) true
+
+        same-offset : said t e k .offset ≡ g .offset
+        same-offset =
+            omega (
+              arith,
+              at,
+              ap (λ (s : Segment). s .offset) moved,
+              said-before t e range k (h .low) (h .high),
+              place g i .to,
+              cut-units segmentSize (planOf t e) (plan-ranges (planOf t e) range .some),
+              d .sizes .near e m,
+            )
+
+        same : q .0 ≡ g
+        same =
+            rising-one (allSent segmentSize (planOf t) es)
+            (all-rising segmentSize (planOf t) (omega arith) (plans-for t) 0 es (apart t es (d .sizes) (d .fits))) (q .0) g
+            (in-all segmentSize (planOf t) es e (q .0) m (q .1)) (in-all segmentSize (planOf t) es e g m i)
+            (record { offset = sym (q .2 .offset) ∙ same-offset; code = place (q .0) (q .1) .code ∙ sym (place g i .code) })
+
+    full-report : (b : Bool) → g .ended ≡ b → (r : Segment) × Mem r rs × Says g r × (r .duration ≡ g .duration)
+    full-report true h = let y = ended h in (y .0, y .1, y .2, y .2 .ended (y .3) .1)
+    full-report false h =
         let c = map-mem (later (e .start)) (cut segmentSize (planOf t e)) g (rw (sym (sent-later t e)) at i) in
         let y = d .needed e m .full (c .0) (c .1) (sym (ap (λ (s : Segment). s .ended) (c .2)) ∙ h) in
         let k = heard e (y .0) (y .1) in
-        let q = said-says t e range (y .0) (k .low) (k .high) in
-        let r = report-is (planOf t e) (y .0) (k .low) (k .high) in
-        let at : (planOf t e .start + sayingAt (planOf t e) (y .0) .offset) % 0x1_0000_0000 ≡ (planOf t e .start + c .0 .offset) % 0x1_0000_0000 =
-        sym (ap (λ (x : Report). x .timestamp) r) ∙ y .2 in
-        let o : e .start + c .0 .offset ≡ g .offset = sym (ap (λ (s : Segment). s .offset) (c .2)) in
-        let place = cut-place segmentSize (planOf t e) (omega arith) (fullSegments segmentSize (planOf t e)) (e .start) true in
-        let whole = cut-units segmentSize (planOf t e) (plan-ranges (planOf t e) range .some) in
-        let same-offset : said t e (y .0) .offset ≡ g .offset =
-        omega (arith, at, o, said-before t e range (y .0) (k .low) (k .high), place g i .to, whole, d .sizes .near e m) in
-        let same : q .0 ≡ g = rising-one (allSent segmentSize t es) (all-rising segmentSize t (omega arith) 0 es (apart t es (d .sizes) (d .fits))) (q .0) g
-        (in-all segmentSize t es e (q .0) m (q .1)) (in-all segmentSize t es e g m i)
-        (record { offset = sym (q .2 .offset) ∙ same-offset; code = place (q .0) (q .1) .code ∙ sym (place g i .code) }) in
         let long : said t e (y .0) .duration ≡ g .duration =
-        sym (ap (λ (x : Report). x .duration) r) ∙ y .3 ∙ sym (ap (λ (s : Segment). s .duration) (c .2)) in
-        (said t e (y .0), k .taken, rw same at (q .2), long)
+        sym (ap (λ (x : Report). x .duration) (report-is (planOf t e) (y .0) (k .low) (k .high))) ∙ y .3 ∙ sym (ap (λ (s : Segment). s .duration) (c .2)) in
+        (said t e (y .0), k .taken, timestamp-tells (c .0) (c .2) (y .0) k (y .2), long)
 
     pub witness : Witness rs g
-    witness = record { full = full (g .ended) refl; ended = ended; marked = marked }
+    witness = record { full = full-report (g .ended) refl; ended = ended; marked = marked }
 
   -- THE TABLE AND THE LIST AFTER THE LAST CALL
 
-  pub held-after : held (tableAfter t (packets t hs)) ≡ allSent segmentSize t es
+  pub held-after : held (tableAfter t (packets t hs)) ≡ allSent segmentSize (planOf t) es
   held-after =
-      recovered segmentSize (omega arith) t es (apart t es (d .sizes) (d .fits)) (final .derived) told
-      (λ g i. let q = of-all segmentSize t es g i in witness (q .0) (q .1) g (q .2))
+      recovered segmentSize (omega arith) (planOf t) (plans-for t) es (apart t es (d .sizes) (d .fits)) (final .derived) told
+      (λ g i. let q = of-all segmentSize (planOf t) es g i in witness (q .0) (q .1) g (q .2))
 
   pub events-after : eventsOf (held (tableAfter t (packets t hs))) ≡ map asListed es
-  events-after = ap eventsOf held-after ∙ events-of-all segmentSize t isFull refl 0 es (apart t es (d .sizes) (d .fits)) []
+  events-after = ap eventsOf held-after ∙ events-of-all segmentSize (planOf t) (plans-for t) isFull refl 0 es (apart t es (d .sizes) (d .fits)) []
 
 pub demand-3 : Demand-3
 demand-3 t es hs d = lists-events (tableAfter t (packets t hs)) (final t es hs d .passes) (map asListed es) (events-after t es hs d)

@@ -1,7 +1,7 @@
 -- DEMAND 2. Along any list of receiving calls a table that passes the tests goes on passing them, and holds what is derived
 -- from the reports taken.
 use Prim.Native.Nat.{ℕ}
-use mathlib.Core.Path.{_≡_, refl, ap, subst}
+use mathlib.Core.Path.{_≡_, refl, sym, ap, subst}
 use mathlib.Core.Bool.{Bool, true, false, cond}
 use mathlib.Core.List.{
   List,
@@ -25,16 +25,18 @@ use borrow.Author.Tests.{le-ltb, ne-eqb}
 use Rattle.model.specs.declared.Segment.{Segment}
 use Rattle.model.specs.declared.Event.{Event}
 use Rattle.model.specs.declared.Table.{Table}
-use Rattle.model.specs.Segments.{Derived}
+use Rattle.model.specs.Limits.{isFull}
+use Rattle.model.specs.Segments.{Within, Derived}
 use Rattle.model.specs.Table.{segmentsFrom, valid, held, validSegment, taking}
 use Rattle.model.specs.Receive.{heardIn, receive, refuses}
-use Rattle.model.specs.Events.{eventsOf}
+use Rattle.model.specs.Events.{eventsOf, Grouped}
 use Rattle.model.specs.List.{events}
 use Rattle.model.specs.Sizes.{BytesFit, FitsTypes}
-use Rattle.model.specs.Demands.{tableAfter, arrivals, Empty, Lists, reportsTaken, Demand-2, Within, Demand-2-any-order}
+use Rattle.model.specs.Demands.{tableAfter, arrivals, Empty, Lists, reportsTaken, Demand-2, Demand-2-any-order}
 use Rattle.model.proofs.Order.{rises, rises-if}
 use Rattle.model.proofs.Segments.{derived-put, derived-unique, is-segmentsOf}
 use Rattle.model.proofs.Keeping.{attained-more}
+use Rattle.model.proofs.Grouping.{eventsOf-grouped}
 use Rattle.model.proofs.Packets.{read-in-range}
 use Rattle.model.proofs.Tables.{valid-if, held-taking, room, taking-valid}
 use Rattle.model.proofs.Receives.{Taken, taken-then, refused-leaves, taken-unless, takes}
@@ -164,7 +166,20 @@ pub demand-2 : Demand-2
 demand-2 t ps e f =
     let k = reached t ps e f in
     let q = is-segmentsOf (k .derived) in
-    record { segments = q; derived = k .derived; lists = lists-events (tableAfter t ps) (k .passes) _ (ap eventsOf q) }
+    record {
+      segments = q;
+      derived = k .derived;
+      lists = lists-events (tableAfter t ps) (k .passes) _ (ap eventsOf q);
+      grouped = subst (λ l. Grouped isFull (held (tableAfter t ps)) (eventsOf l)) q (eventsOf-grouped (held (tableAfter t ps)) (k .derived .rises));
+    }
 
 pub demand-2-any-order : Demand-2-any-order
-demand-2-any-order t u ps qs e e′ f f′ w w′ = derived-unique w w′ (reached t ps e f .derived) (reached u qs e′ f′ .derived)
+demand-2-any-order t u ps qs e e′ f f′ w w′ =
+    let k = reached t ps e f in
+    let n = reached u qs e′ f′ in
+    let q = derived-unique w w′ (k .derived) (n .derived) in
+    record {
+      segments = q;
+      first = lists-events (tableAfter t ps) (k .passes) _ refl;
+      second = lists-events (tableAfter u qs) (n .passes) _ (ap eventsOf (sym q));
+    }

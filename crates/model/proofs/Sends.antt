@@ -1,27 +1,28 @@
 -- The packets of a sent event: they are in range, so the reader gives their reports back, and from the table's origin each
 -- is heard as what the plan says of its segment, at the event's own offsets.
 use Prim.Native.Nat.{ℕ, _+_, _-_, _%_, _<_, _≤_}
-use mathlib.Core.Path.{_≡_, ap, _∙_}
+use mathlib.Core.Path.{_≡_, refl, sym, ap, _∙_}
 use mathlib.Core.Bool.{true}
 use mathlib.Core.List.{map, append-nil}
 use native.Mathlib.Omega.{arith}
 use lib.Dec.{leb}
 use lib.ListN.{length, getD, replicate}
 use borrow.Author.Tests.{leb-true, le-leb, le-ltb, ne-eqb}
+use Rattle.model.specs.declared.Report.{Report}
 use Rattle.model.specs.declared.Plan.{Plan}
 use Rattle.model.specs.declared.Segment.{Segment}
 use Rattle.model.specs.declared.Table.{Table}
 use Rattle.model.specs.Limits.{segmentSize, isCode}
 use Rattle.model.specs.Refusals.{noReport}
 use Rattle.model.specs.Packet.{reportIn, packetOf, reportInRange, ssrc}
-use Rattle.model.specs.Plan.{fullSegments, cutFrom, cut, sayings, onWire, reports, reportAt, planInRange, writePlanned}
+use Rattle.model.specs.Plan.{fullSegments, cutFrom, cut, sayings, onWire, reports, reportAt, planInRange, writeReport}
 use Rattle.model.specs.Receive.{offset, heardFrom, heardIn}
 use Rattle.model.specs.Sizes.{Sent, end, planOf, ReportFits}
 use Rattle.model.specs.Demands.{sent, bytesOf}
 use Rattle.model.proofs.Packets.{packet-report}
 use Rattle.model.proofs.Cuts.{cut-place, cut-within, cut-units, later, cut-later}
-use Rattle.model.proofs.Plans.{Says, sayings-say, length-wire, wire-at, mem-at}
-use Rattle.model.proofs.Recovered.{segmentsSent}
+use Rattle.model.proofs.Plans.{Says, sayings-first, sayings-say, length-wire, wire-at, mem-at, marked-first}
+use Rattle.model.proofs.Recovered.{PlansFor, segmentsSent}
 use Rattle.model.proofs.Basics.{noSegment, Mem, mem-map, and-then, and-both}
 
 -- the ranges of a plan, one by one
@@ -66,6 +67,10 @@ module _ (p : Plan) (k : ℕ) (low : 1 ≤ k) (high : k ≤ length (reports p)) 
       let z : 0 + (k - 1) ≡ k - 1 = omega arith in
       wire-at p 0 (k - 1) (sayings segmentSize p) noReport noSegment within ∙ ap (λ (j : ℕ). onWire p j (sayingAt p k)) z
 
+  -- only report 1 carries M
+  pub marked-is-1 : reportAt p k .marker ≡ true → k ≡ 1
+  marked-is-1 m = omega (arith, marked-first segmentSize p noSegment (k - 1) within (sym (ap (λ (r : Report). r .marker) report-is) ∙ m))
+
   pub saying-says : PlanRanges p → (g : Segment) × Mem g (cut segmentSize p) × Says g (sayingAt p k)
   saying-says r = sayings-say segmentSize p (omega arith) (r .often) (sayingAt p k) (mem-at (sayings segmentSize p) (k - 1) noSegment within)
 
@@ -85,9 +90,17 @@ module _ (p : Plan) (k : ℕ) (low : 1 ≤ k) (high : k ≤ length (reports p)) 
   report-fits h = rw report-is (record { sequence = omega arith; timestamp = omega arith; ssrc = h })
 
   -- the sender's call gives its 16 bytes
-  pub planned-bytes : planInRange p ≡ true → writePlanned p k (replicate 16 0) .output ≡ packetOf (reportAt p k)
-  unfolding writePlanned
+  pub planned-bytes : planInRange p ≡ true → writeReport p k (replicate 16 0) .output ≡ packetOf (reportAt p k)
+  unfolding writeReport
   planned-bytes r = rw (r, ne-eqb k 0 (λ e. omega arith), le-ltb (length (reports p)) k high) (append-nil _)
+
+-- a plan has a report 1, and it carries M
+pub some-report : (p : Plan) → 1 ≤ length (reports p)
+unfolding reports
+some-report p = omega (arith, length-wire p 0 (sayings segmentSize p), sayings-first segmentSize p noSegment .1)
+
+pub report-1-marked : (p : Plan) → reportAt p 1 .marker ≡ true
+report-1-marked p = ap (λ (r : Report). r .marker) (report-is p 1 (omega arith) (some-report p)) ∙ sayings-first segmentSize p noSegment .0
 
 -- REPORT K OF A SENT EVENT
 
@@ -106,18 +119,21 @@ says-later n s = record {
   marked = s .marked;
 }
 
+pub plans-for : (t : Table) → PlansFor (planOf t)
+plans-for t = record { code = λ e. refl; long = λ e. refl; volume = λ e. refl }
+
 -- an event's segments are those of its plan, moved to its start
-pub sent-later : (t : Table) (e : Sent) → map (later (e .start)) (cut segmentSize (planOf t e)) ≡ segmentsSent segmentSize t e
+pub sent-later : (t : Table) (e : Sent) → map (later (e .start)) (cut segmentSize (planOf t e)) ≡ segmentsSent segmentSize (planOf t) e
 sent-later t e =
     let z : e .start + 0 ≡ e .start = omega arith in
     cut-later segmentSize (planOf t e) (e .start) (fullSegments segmentSize (planOf t e)) 0 true
     ∙ ap (λ (o : ℕ). cutFrom segmentSize (planOf t e) (fullSegments segmentSize (planOf t e)) o true) z
 
-pub later-mem : (t : Table) (e : Sent) (g : Segment) → Mem g (cut segmentSize (planOf t e)) → Mem (later (e .start) g) (segmentsSent segmentSize t e)
+pub later-mem : (t : Table) (e : Sent) (g : Segment) → Mem g (cut segmentSize (planOf t e)) → Mem (later (e .start) g) (segmentsSent segmentSize (planOf t) e)
 later-mem t e g m = rw (sent-later t e) at (mem-map (later (e .start)) (cut segmentSize (planOf t e)) g m)
 
 module _ (t : Table) (e : Sent) (range : planInRange (planOf t e) ≡ true) (k : ℕ) (low : 1 ≤ k) (high : k ≤ length (reports (planOf t e))) where
-  pub said-says : (g : Segment) × Mem g (segmentsSent segmentSize t e) × Says g (said t e k)
+  pub said-says : (g : Segment) × Mem g (segmentsSent segmentSize (planOf t) e) × Says g (said t e k)
   said-says =
       let q = saying-says (planOf t e) k low high (plan-ranges (planOf t e) range) in
       (later (e .start) (q .0), later-mem t e (q .0) (q .1), says-later (e .start) (q .2))

@@ -7,6 +7,7 @@ use lib.ListN.{length}
 use Rattle.model.specs.declared.Report.{Report}
 use Rattle.model.specs.declared.Plan.{Plan}
 use Rattle.model.specs.declared.Table.{Table}
+use Rattle.model.specs.declared.Event.{Event}
 use Rattle.model.specs.Limits.{segmentSize}
 use Rattle.model.specs.Plan.{cut, planInRange}
 
@@ -35,6 +36,10 @@ planOf t e = record {
   length = e .length;
   period = e .period;
 }
+
+-- as it is to be listed: key, start, length and volume as sent, began and ended both true
+abbrev pub asListed : Sent → Event
+asListed e = record { code = e .code; start = e .start; length = e .length; volume = e .volume; began = true; ended = true }
 
 -- each event ends at or before the next one's start
 unfoldable pub Apart : List Sent → Type 0

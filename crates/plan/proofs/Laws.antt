@@ -1,7 +1,7 @@
 -- The formulas of specs/Formula.antt give the model's lists of reports.
 use Prim.Native.Nat.{ℕ, zero, suc, _+_, _-_, _*_, _/_, _%_, _<_, _≤_}
 use mathlib.Core.Path.{_≡_, refl, ap, _∙_}
-use mathlib.Core.Bool.{Bool, true, false, not, cond, _&&_}
+use mathlib.Core.Bool.{Bool, true, false, not, cond, _&&_, and-true, and-false}
 use mathlib.Core.List.{List, [], _∷_, _++_}
 use native.Mathlib.Omega.{arith}
 use native.Mathlib.Nat.{div-mul-le-self, div-add-mod', le-div-iff-mul-le, div-lt-iff-lt-mul, mod-lt}
@@ -29,7 +29,7 @@ use Rattle.model.specs.Plan.{
 }
 use Rattle.model.specs.Limits.{segmentSize}
 use Rattle.model.specs.Refusals.{noReport}
-use Rattle.model.proofs.Plans.{reports-of-segment, length-wire, wire-at}
+use Rattle.model.proofs.Plans.{reports-of-segment, length-wire, wire-at, length-interim}
 use Rattle.plan.specs.declared.Place.{Place}
 use Rattle.plan.specs.Formula.{interimCount, reportsIn, durationAt, perFull, reportTotal, placeOf, unitsAt, endedAt, sayingAt}
 
@@ -44,11 +44,6 @@ interim-at period g j (suc n) zero d h =
 interim-at period g j (suc n) (suc i) d h =
     let e : i + suc j ≡ suc i + j = omega arith in
     interim-at period g (suc j) n i d (omega arith) ∙ ap (λ (m : ℕ). saying g (m * period) false) e
-
-length-interim : (period : ℕ) (g : Segment) (j n : ℕ) → length (interim period g j n) ≡ n
-unfolding interim
-length-interim period g j zero = refl
-length-interim period g j (suc n) = ap suc (length-interim period g (suc j) n)
 
 -- in the second of two lists, the first of length n
 past : (a b : List Segment) (n i : ℕ) (d : Segment) → length a ≡ n → getD (a ++ b) (n + i) d ≡ getD b i d
@@ -72,18 +67,10 @@ of-segment period g i d h = go (decLt i n)
     last : List Segment
     last = saying g (g .duration) false ∷ saying g (g .duration) (g .ended) ∷ saying g (g .duration) (g .ended) ∷ []
 
-    and-false : (b : Bool) → false ≡ (b && false)
-    and-false true = refl
-    and-false false = refl
-
-    and-true : (b : Bool) → b ≡ (b && true)
-    and-true true = refl
-    and-true false = refl
-
     at-end : (j : ℕ) → j < 3 → getD last j d ≡ saying g (g .duration) (g .ended && ltb n (n + j))
-    at-end zero l = rw (le-ltb n (n + 0) (omega arith)) (ap (saying g (g .duration)) (and-false (g .ended)))
-    at-end (suc zero) l = rw (lt-ltb n (n + 1) (omega arith)) (ap (saying g (g .duration)) (and-true (g .ended)))
-    at-end (suc (suc zero)) l = rw (lt-ltb n (n + 2) (omega arith)) (ap (saying g (g .duration)) (and-true (g .ended)))
+    at-end zero l = rw (le-ltb n (n + 0) (omega arith), and-false)
+    at-end (suc zero) l = rw (lt-ltb n (n + 1) (omega arith), and-true)
+    at-end (suc (suc zero)) l = rw (lt-ltb n (n + 2) (omega arith), and-true)
     at-end (suc (suc (suc j))) l = absurd (omega arith)
 
     late : (j : ℕ) → n + j ≡ i → getD (early ++ last) i d ≡ saying g (g .duration) (g .ended && ltb n i)
@@ -91,10 +78,8 @@ of-segment period g i d h = go (decLt i n)
 
     go : Dec (i < n) → getD (early ++ last) i d ≡ ofSegment period g i
     go (yes l) =
-        rw (lt-ltb i n l, le-ltb n i (omega arith))
-        (List·getD-append early last d i (rw length-interim l)
-        ∙ interim-at period g 1 n i d l
-        ∙ ap (saying g ((i + 1) * period)) (and-false (g .ended)))
+        rw (lt-ltb i n l, le-ltb n i (omega arith), and-false)
+        (List·getD-append early last d i (rw length-interim l) ∙ interim-at period g 1 n i d l)
     go (no l) = rw (le-ltb i n (omega arith)) (late (i - n) (omega arith))
 
 -- THE MARK
@@ -150,15 +135,17 @@ module _ (size : ℕ) (p : Plan) where
   in-all (suc n) o m zero i d a h =
       let f : o + 0 * size ≡ o = omega arith in
       let t = lt-ltb 0 (suc n) (omega arith) in
-      rw (f, t)
-      (of-first (p .period) (segment o (p .code) size (p .volume) false m) (reportsOfAll (p .period) (cutFrom size p n (o + size) false)) (perFull size p) i d (rw t at h))
+      let g = segment o (p .code) size (p .volume) false m in
+      let more = reportsOfAll (p .period) (cutFrom size p n (o + size) false) in
+      rw (f, t) (of-first (p .period) g more (perFull size p) i d (rw t at h))
   in-all (suc n) o m (suc j) i d a h =
       let g = segment o (p .code) size (p .volume) false m in
       let e : suc j * perFull size p + i ≡ perFull size p + (j * perFull size p + i) = omega arith in
       let f : o + suc j * size ≡ o + size + j * size = omega arith in
       let t = leb·suc-suc (suc j) n in
+      let more = reportsOfAll (p .period) (cutFrom size p n (o + size) false) in
       rw (e, f, t)
-      (past (reportsOf (p .period) g) (reportsOfAll (p .period) (cutFrom size p n (o + size) false)) (perFull size p) (j * perFull size p + i) d (reports-of-segment (p .period) g)
+      (past (reportsOf (p .period) g) more (perFull size p) (j * perFull size p + i) d (reports-of-segment (p .period) g)
       ∙ in-all n (o + size) false j i d (omega arith) (rw t at h))
 
   -- THE EVENT

@@ -1,7 +1,7 @@
 -- A law for each way through a function, and the bounds that keep its numbers within their types.
 use Prim.Native.Nat.{ℕ, _+_, _-_, _*_, _/_, _%_, _<_, _≤_}
 use mathlib.Core.Path.{_≡_, sym, _∙_}
-use mathlib.Core.Bool.{Bool, true, false, not, cond, _&&_}
+use mathlib.Core.Bool.{Bool, true, false, not, cond}
 use native.Mathlib.Omega.{arith}
 use native.Mathlib.Nat.{div-le-self, mul-le-mul-right, le-div-iff-mul-le}
 use lib.Dec.{ltb, leb, eqb}
@@ -9,13 +9,13 @@ use lib.ListN.{length}
 use mir.Syntax.{w32}
 use mir.Val.{Fits}
 use borrow.Author.Needs.{needs}
-use borrow.Author.Tests.{lt-ltb, le-ltb, le-leb, lt-leb, leb-true, not-true, not-false}
+use borrow.Author.Tests.{lt-ltb, le-ltb, le-leb, lt-leb, not-true, not-false}
 use Rattle.model.specs.declared.Plan.{Plan}
 use Rattle.model.specs.declared.CountAnswer.the-variants.{Reports, Refused}
 use Rattle.model.specs.Limits.{segmentSize}
 use Rattle.model.specs.Refusals.{toldCount}
-use Rattle.model.specs.Plan.{fullSegments, restUnits, planInRange, countReports, reports, reportAt}
-use Rattle.model.proofs.Basics.{and-then}
+use Rattle.model.specs.Plan.{fullSegments, restUnits, planInRange, reportCount, reports, reportAt}
+use Rattle.model.proofs.Sends.{plan-ranges}
 use Rattle.plan.specs.declared.Place.{Place}
 use Rattle.plan.specs.Formula.{interimCount, reportsIn, durationAt, reportTotal, placeOf, unitsAt, endedAt}
 use Rattle.plan.proofs.Laws.{length-reports, in-place, report-at}
@@ -51,24 +51,11 @@ module _ (p : Plan) where
 
 -- what is known of a plan in range
 module _ (p : Plan) (h : planInRange p ≡ true) where
-  numbers : ((leb 1 (p .length) && leb (p .length) 1048560) && (leb 1 (p .period) && leb (p .period) 65535)) ≡ true
-  numbers =
-      and-then (leb (p .volume) 63) _ (and-then (leb (p .code) 15) _ (and-then (leb (p .«payload_type») 127) _ h .1) .1) .1
-
-  lengths : (leb 1 (p .length) && leb (p .length) 1048560) ≡ true
-  lengths = and-then (leb 1 (p .length) && leb (p .length) 1048560) _ numbers .0
-
-  periods : (leb 1 (p .period) && leb (p .period) 65535) ≡ true
-  periods = and-then (leb 1 (p .length) && leb (p .length) 1048560) _ numbers .1
-
   pub some-length : 1 ≤ p .length
-  some-length = leb-true 1 (p .length) (and-then (leb 1 (p .length)) _ lengths .0)
-
-  most-length : p .length ≤ 1048560
-  most-length = leb-true (p .length) 1048560 (and-then (leb 1 (p .length)) _ lengths .1)
+  some-length = plan-ranges p h .some
 
   pub some-period : 1 ≤ p .period
-  some-period = leb-true 1 (p .period) (and-then (leb 1 (p .period)) _ periods .0)
+  some-period = plan-ranges p h .often
 
 -- ONE SEGMENT
 
@@ -94,7 +81,7 @@ module _ (units period n : ℕ) (interim : n ≡ interimCount period units) wher
 module _ (p : Plan) (h : planInRange p ≡ true) (n a : ℕ) (full : n ≡ fullSegments segmentSize p) (per : a ≡ reportsIn (p .period) 65535) where
   full-reports : n * a ≤ 983055
   full-reports =
-      let l : n ≤ 15 = omega (arith, most-length p h) in
+      let l : n ≤ 15 = omega (arith, plan-ranges p h .most) in
       omega (arith, mul-le-mul-right a l, div-le-self 65534 (p .period))
 
   pub full-fit : Fits w32 (n * a)
@@ -108,13 +95,13 @@ module _ (p : Plan) (h : planInRange p ≡ true) (n a : ℕ) (full : n ≡ fullS
     all-counted = rw (length-reports p, full, per, last, rest)
 
 module _ (p : Plan) (b : Bool) (tested : b ≡ planInRange p) where
-  pub refused : not b ≡ true → toldCount (Refused 12) ≡ countReports p
+  pub refused : not b ≡ true → toldCount (Refused 12) ≡ reportCount p
   refused h = rw (← tested, not-true b h)
 
   pub passed : not b ≡ false → planInRange p ≡ true
   passed h = sym tested ∙ not-false b h
 
-  pub counted : not b ≡ false → (n : ℕ) → n ≡ length (reports p) → toldCount (Reports n) ≡ countReports p
+  pub counted : not b ≡ false → (n : ℕ) → n ≡ length (reports p) → toldCount (Reports n) ≡ reportCount p
   counted h n e = rw (← tested, not-false b h, e)
 
 -- A REPORT
@@ -148,14 +135,15 @@ some-units p j u e = go (ltb j (fullSegments segmentSize p)) e
 pub placed : (p : Plan) (i a : ℕ) → a ≡ reportsIn (p .period) 65535 → record { segment = i / a; index = i % a } ≡ placeOf segmentSize p i
 placed p i a per = rw per
 
-module _ (p : Plan) (h : planInRange p ≡ true) (i k : ℕ) (number : i ≡ k - 1) (first : 1 ≤ k) (last : k ≤ length (reports p)) (at : Place) (place : at ≡ placeOf segmentSize p i) where
+module _ (p : Plan) (h : planInRange p ≡ true) (i k : ℕ) (number : i ≡ k - 1) (first : 1 ≤ k) (last : k ≤ length (reports p))
+    (at : Place) (place : at ≡ placeOf segmentSize p i) where
   in-plan : i < reportTotal segmentSize p
   in-plan = omega (arith, length-reports p)
 
   pub offset-fits : Fits w32 (at .segment * 65535)
   offset-fits =
       let w = in-place segmentSize p (omega arith) (some-period p h) i in-plan in
-      rw place (record { fits = omega (arith, w .segment, most-length p h) })
+      rw place (record { fits = omega (arith, w .segment, plan-ranges p h .most) })
 
   pub as-planned : (u d : ℕ) → u ≡ unitsAt segmentSize p (at .segment) → d ≡ durationAt (p .period) u (at .index)
       → (e : Bool) → e ≡ endedAt segmentSize p at
@@ -175,4 +163,33 @@ module _ (p : Plan) (h : planInRange p ≡ true) (i k : ℕ) (number : i ≡ k -
   as-planned u d units duration e ended s t sequence timestamp =
       rw (sequence, timestamp, ended, duration, units, place, ← number, report-at p (some-period p h) i in-plan)
 
-pub ruleset planning = (needs, wrong-type, wrong-code, wrong-volume, no-length, too-long, no-period, by-period, some-length, some-period, few-more, before-end, at-end, within, full-fit, all-fit, all-counted, refused, passed, counted, a-full, the-last, goes-on, may-end, some-units, placed, offset-fits, as-planned)
+pub ruleset planning = (
+  needs,
+  wrong-type,
+  wrong-code,
+  wrong-volume,
+  no-length,
+  too-long,
+  no-period,
+  by-period,
+  some-length,
+  some-period,
+  few-more,
+  before-end,
+  at-end,
+  within,
+  full-fit,
+  all-fit,
+  all-counted,
+  refused,
+  passed,
+  counted,
+  a-full,
+  the-last,
+  goes-on,
+  may-end,
+  some-units,
+  placed,
+  offset-fits,
+  as-planned,
+)

@@ -5,7 +5,7 @@ ghost use mathlib.Core.Bool.{true};
 ghost use lib.ListN.{length};
 ghost use Rattle.model.specs.Limits.{segmentSize};
 ghost use Rattle.model.specs.Refusals.{toldCount, toldWrite};
-ghost use Rattle.model.specs.Plan.{fullSegments, restUnits, planInRange, countReports, reports, reportAt, writePlanned};
+ghost use Rattle.model.specs.Plan.{fullSegments, restUnits, planInRange, reportCount, reports, reportAt, writeReport};
 ghost use Rattle.plan.specs.Formula.{interimCount, reportsIn, durationAt, placeOf, unitsAt, endedAt};
 use model::CountAnswer;
 use model::Plan;
@@ -91,7 +91,7 @@ fn total(p: Plan) -> u32
 
 // How many reports the plan has, or 12.
 pub fn report_count(p: Plan) -> CountAnswer
-    ensures { λ r. ⌜ toldCount r ≡ countReports p ⌝ }
+    ensures { λ r. ⌜ toldCount r ≡ reportCount p ⌝ }
 {
     if !in_range(p) {
         return CountAnswer::Refused(model::OUT_OF_RANGE);
@@ -184,8 +184,8 @@ fn planned(p: Plan, k: u32) -> Report
 
 // Writes report k of the plan, counted from 1, at the start of the output, or refuses with 12, 13 or 14.
 pub fn write_report(p: Plan, k: u32, out: &mut [u8]) -> WriteAnswer
-    ensures { λ a. ⌜ toldWrite a ≡ writePlanned p k (now (out .entry)) .answer ⌝ }
-    ensures { λ a. ⌜ now (out .exit) ≡ writePlanned p k (now (out .entry)) .output ⌝ }
+    ensures { λ a. ⌜ toldWrite a ≡ writeReport p k (now (out .entry)) .answer ⌝ }
+    ensures { λ a. ⌜ now (out .exit) ≡ writeReport p k (now (out .entry)) .output ⌝ }
 {
     if !in_range(p) {
         return WriteAnswer::Refused(model::OUT_OF_RANGE);

@@ -3,7 +3,7 @@ use Prim.Native.Nat.{ℕ, _+_, _*_, _/_, _%_, _≤_, _<_, min, max}
 use mathlib.Core.Path.{_≡_, refl, sym}
 use mathlib.Core.Bool.{Bool, true, false, _&&_, _||_}
 use native.Mathlib.Omega.{arith}
-use borrow.Author.Tests.{lt-ltb, le-ltb, ltb-true, ltb-false, leb-true, eqb-true, eqb-false}
+use borrow.Author.Tests.{lt-ltb, le-ltb, ltb-true, ltb-false, eqb-true, eqb-false}
 use lib.Dec.{ltb, eqb}
 use mir.Val.{Fits}
 use mir.Syntax.{w8, w32}
@@ -25,13 +25,6 @@ before-key r s h k = go (ltb (r .offset) (s .offset)) (eqb (r .offset) (s .offse
     go false true true p q u = sym (lt-ltb (keyOf r) (keyOf s) (omega (arith, ltb-true, eqb-true)))
     go false true false p q u = sym (le-ltb (keyOf r) (keyOf s) (omega (arith, ltb-false, eqb-true)))
     go false false c p q u = sym (le-ltb (keyOf r) (keyOf s) (omega (arith, ltb-false, eqb-false)))
-
-pub small-code : (s : Segment) → validSegment s ≡ true → s .code < 256
-small-code s v = omega (arith, leb-true (s .code) 15 (valid-then s v .code))
-
-pub and-false : (a : Bool) → (a && false) ≡ false
-and-false true = refl
-and-false false = refl
 
 -- the fields of a segment within its ranges have the widths of their types
 pub offset-fits : (k w : ℕ) → validSegment (segmentOf k w) ≡ true → Fits w32 (k / 256)

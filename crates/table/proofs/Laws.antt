@@ -1,10 +1,10 @@
 -- The laws that close the needs of the table's functions.
 use Prim.Native.Nat.{ℕ, _≤_, _<_}
-use mathlib.Core.Path.{_≡_, sym, _∙_}
-use mathlib.Core.List.{List, map}
+use mathlib.Core.Path.{_≡_}
+use mathlib.Core.List.{List}
 use mathlib.Core.Bool.{false, _&&_}
 use lib.Dec.{ltb, eqb}
-use lib.ListN.{length, getD, length-map}
+use lib.ListN.{getD}
 use borrow.Author.Needs.{needs}
 use borrow.Author.Tests.{lt-ltb, le-ltb}
 use Rattle.model.specs.declared.Table.{Table}
@@ -26,10 +26,6 @@ use Rattle.table.proofs.Gathers.{
 use Rattle.table.proofs.Tests.{too-many, wrong-type, keys-fail, by-heard}
 use Rattle.table.proofs.Shifts.{opening-starts, opening-goes-on, key-put-in, told-put-in, stores, stored-length}
 
--- the 128 places of a column
-pub length-mapped : (A B : Type 0) (f : A → B) (l : List A) (n : ℕ) → length (map f l) ≡ n → length l ≡ n
-length-mapped A B f l n e = sym (length-map l f) ∙ e
-
 module _ (type ssrc origin : ℕ) (t : Table) where
   pub type-high : 127 < type → t ≡ emptyTable 0 0 0 → record { table = t; refusal = 12 } ≡ opened type ssrc origin
   type-high h e = rw (lt-ltb 127 type h, e)
@@ -46,7 +42,6 @@ module _ (keys : List ℕ) (n i k : ℕ) where
 
 pub ruleset receiving = (
   needs,
-  length-mapped,
   type-high,
   type-fits,
   opening-starts,

@@ -1,7 +1,7 @@
 -- A report taken into the columns: the place that the search finds is that of the model's `put`, and each column changes there.
 use Prim.Native.Nat.{ℕ, _+_, _≤_, _<_}
 use mathlib.Core.Path.{_≡_, refl, sym, _∙_, ap}
-use mathlib.Core.Bool.{Bool, true, false, not, _&&_, false≢true}
+use mathlib.Core.Bool.{Bool, true, false, not, _&&_, and-false, false≢true}
 use mathlib.Core.List.{List, _∷_, _++_, map}
 use mathlib.Core.Logic.{⊎-elim}
 use native.Mathlib.Nat.{eq-or-lt-of-le}
@@ -22,7 +22,6 @@ use Rattle.model.proofs.Order.{_≺_, Alike}
 use Rattle.model.proofs.Numbers.{key-back, heard-back}
 use Rattle.model.proofs.Tables.{tests-passed, held-length}
 use Rattle.table.specs.Columns.{Parts, insertedAt, takenInto}
-use Rattle.table.proofs.Keys.{and-false}
 use Rattle.table.proofs.Puts.{at, key-then, key-alike, alike-key, put-same, put-between, holds-at, holds-none}
 use Rattle.table.proofs.Columns.{held-at, key-at, code-at, ordered, length-in, column-stored, column-inserted}
 

@@ -1,7 +1,7 @@
 -- The tests of refusal 16: a table passes them exactly if its head and each of its columns does.
 use Prim.Native.Nat.{ℕ, _+_, _%_, _≤_, _<_}
 use mathlib.Core.Path.{_≡_, refl, sym, _∙_}
-use mathlib.Core.Bool.{Bool, true, false, not, _&&_}
+use mathlib.Core.Bool.{Bool, true, false, not, and-false}
 use mathlib.Core.List.{List}
 use native.Mathlib.Omega.{arith}
 use borrow.Author.Tests.{lt-ltb, le-leb, lt-leb, leb-true, not-true, not-false}
@@ -14,7 +14,7 @@ use Rattle.model.proofs.Basics.{and-both}
 use Rattle.model.proofs.Numbers.{key-back}
 use Rattle.model.proofs.Tables.{ValidSegment, valid-then, valid-if, tests-passed, valid-from, all-valid-from, rising-from}
 use Rattle.table.specs.Columns.{KeysPass, HeardPass, Tells}
-use Rattle.table.proofs.Keys.{before-key, and-false}
+use Rattle.table.proofs.Keys.{before-key}
 use Rattle.table.proofs.Columns.{ordered}
 
 pub too-many : (t : Table) → 128 < t .head .count → false ≡ valid t

@@ -51,7 +51,8 @@ fn larger(a: u32, b: u32) -> u32
     a
 }
 
-fn smaller(a: u32, b: u32) -> u32
+// Of two volume numbers the smaller, which is the louder.
+pub fn smaller(a: u32, b: u32) -> u32
     ensures { λ r. ⌜ r ≡ min a b ⌝ }
 {
     if b < a {

@@ -13,8 +13,7 @@ use Rattle.model.specs.declared.Event.{Event}
 use Rattle.model.specs.declared.Table.{Table}
 use Rattle.model.specs.Refusals.{noEvent}
 use Rattle.model.specs.Table.{valid}
-use Rattle.model.specs.List.{events, list}
-use Rattle.events.specs.Answer.{answerFor}
+use Rattle.model.specs.List.{events, listAnswer, list}
 
 -- the lent records once k events are written
 abbrev pub filled : Table → ℕ → List Event → List Event
@@ -38,8 +37,7 @@ module _ (t : Table) where
       v = getD (events t) k noEvent
 
   -- the answer asks for no more records than are lent
-  pub within : (room : ℕ) → answerFor t room .events ≤ room
-  unfolding answerFor
+  pub within : (room : ℕ) → listAnswer t room .events ≤ room
   within room = go (valid t) (ltb room (length (events t))) refl
     where
       go : (v b : Bool) → ltb room (length (events t)) ≡ b → cond (eqb (cond (not v) 16 (cond b 15 0)) 0) (length (events t)) 0 ≤ room
@@ -48,8 +46,7 @@ module _ (t : Table) where
       go true false e = ltb-false room (length (events t)) e
 
   -- a record that the answer asks for is one of a table that passes the tests, and has its event
-  pub asked : (k room : ℕ) → k < answerFor t room .events → (valid t ≡ true) × (k < length (events t))
-  unfolding answerFor
+  pub asked : (k room : ℕ) → k < listAnswer t room .events → (valid t ≡ true) × (k < length (events t))
   asked k room = go (valid t) (ltb room (length (events t)))
     where
       go : (v b : Bool) → k < cond (eqb (cond (not v) 16 (cond b 15 0)) 0) (length (events t)) 0 → (v ≡ true) × (k < length (events t))
@@ -57,12 +54,7 @@ module _ (t : Table) where
       go true true l = absurd (not-suc-le-zero l)
       go true false l = (refl, l)
 
-  pub answer-is : (l : List Event) → answerFor t (length l) ≡ list t l .answer
-  unfolding answerFor
-  answer-is l = refl
-
-  pub filled-all : (l : List Event) → filled t (answerFor t (length l) .events) l ≡ list t l .records
-  unfolding answerFor
+  pub filled-all : (l : List Event) → filled t (listAnswer t (length l) .events) l ≡ list t l .records
   filled-all l = go (valid t) (ltb (length l) (length (events t))) refl
     where
       go : (v b : Bool) → ltb (length l) (length (events t)) ≡ b

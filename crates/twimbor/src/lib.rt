@@ -3,7 +3,7 @@
 ghost use mathlib.Core.Path.{_≡_};
 ghost use Rattle.model.specs.Refusals.{noReport, noEvent};
 ghost use Rattle.model.specs.Packet.{read, write};
-ghost use Rattle.model.specs.Plan.{countReports, writePlanned};
+ghost use Rattle.model.specs.Plan.{reportCount, writeReport};
 ghost use Rattle.model.specs.Table.{valid, opened, tableOf, holding};
 ghost use Rattle.model.specs.Receive.{receive};
 ghost use Rattle.model.specs.List.{eventAt, list};
@@ -104,7 +104,7 @@ pub extern "C" fn twimbor_write(r: Report, out: &mut [u8]) -> u8
 // How many reports a plan has, or 12.
 #[no_mangle]
 pub extern "C" fn twimbor_report_count(p: Plan) -> CountResult
-    ensures { λ r. ⌜ r ≡ countResult (countReports p) ⌝ }
+    ensures { λ r. ⌜ r ≡ countResult (reportCount p) ⌝ }
 {
     let a = plan::report_count(p);
     match a {
@@ -122,8 +122,8 @@ pub extern "C" fn twimbor_report_count(p: Plan) -> CountResult
 // Writes report k of a plan, counted from 1, at the start of the output, or answers 12, 13 or 14.
 #[no_mangle]
 pub extern "C" fn twimbor_write_report(p: Plan, k: u32, out: &mut [u8]) -> u8
-    ensures { λ n. ⌜ n ≡ writePlanned p k (now (out .entry)) .answer .number ⌝ }
-    ensures { λ n. ⌜ now (out .exit) ≡ writePlanned p k (now (out .entry)) .output ⌝ }
+    ensures { λ n. ⌜ n ≡ writeReport p k (now (out .entry)) .answer .number ⌝ }
+    ensures { λ n. ⌜ now (out .exit) ≡ writeReport p k (now (out .entry)) .output ⌝ }
 {
     let a = plan::write_report(p, k, out);
     match a {

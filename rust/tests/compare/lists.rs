@@ -23,22 +23,22 @@ fn event_at(table: &Table, events: &Events, k: u32) -> Result<Event, u8> {
     answer
 }
 
-/// Lends the first `length` records of a longer list, so that a record written too far is seen.
+/// Lends the first so many records of a longer list, so that a record written too far is seen.
 pub fn list(
     random: &Random,
     (table, events): (&Table, &Events),
-    length: usize,
+    records: usize,
 ) -> Result<usize, u8> {
-    let before: Vec<Event> = (0..length + 2).map(|_| any_event(random)).collect();
+    let before: Vec<Event> = (0..records + 2).map(|_| any_event(random)).collect();
     let mut expected = before.clone();
-    let answer = paper::list(events, &mut expected[..length]);
+    let answer = paper::list(events, &mut expected[..records]);
     let listed = Listed { refusal: answer.err().unwrap_or(0), events: answer.unwrap_or(0) };
     let mut lent = before.clone();
-    let said = sys::list_columns(table.head, &table.keys, &table.heard, &mut lent[..length]);
-    assert_eq!((said, &lent), (listed, &expected), "{length} for {table:?}");
+    let said = sys::list_columns(table.head, &table.keys, &table.heard, &mut lent[..records]);
+    assert_eq!((said, &lent), (listed, &expected), "{records} for {table:?}");
     let mut lent = before.clone();
-    let said = table.list_into(&mut lent[..length]).map_err(Refusal::number);
-    assert_eq!((said, lent), (answer, expected), "{length} for {table:?}");
+    let said = table.list_into(&mut lent[..records]).map_err(Refusal::number);
+    assert_eq!((said, lent), (answer, expected), "{records} for {table:?}");
     answer
 }
 
@@ -52,8 +52,8 @@ fn events_are_listed_as_on_paper() {
         let table = &both.library;
         assert_eq!(table.events().map_err(Refusal::number), events, "{table:?}");
         let n = events.as_ref().map_or(0, Vec::len);
-        for length in [n.saturating_sub(1), n, n + 1, random.index(160)] {
-            lists.add(list(random, (table, &events), length));
+        for records in [n.saturating_sub(1), n, n + 1, random.index(160)] {
+            lists.add(list(random, (table, &events), records));
         }
         let n = n as u32;
         for k in [random.pick(&[0, u32::MAX, random.u32()]), 1 + random.below(n.max(1)), n, n + 1] {
@@ -61,6 +61,6 @@ fn events_are_listed_as_on_paper() {
         }
         both.compare();
     }
-    numbers.finish("event at a number", &[13, 16]);
+    numbers.finish("event_at", &[13, 16]);
     lists.finish("list", &[15, 16]);
 }

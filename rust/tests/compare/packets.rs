@@ -18,16 +18,16 @@ fn read(packet: &[u8]) -> Result<Report, u8> {
     answer
 }
 
-/// Writes into the first `length` bytes of a larger buffer, so that a byte written too far is seen.
-fn write(random: &Random, report: &Report, length: usize) -> Result<(), u8> {
-    let before = random.bytes(length + 8);
+/// Lends the first so many bytes of a larger output, so that a byte written too far is seen.
+fn write(random: &Random, report: &Report, bytes: usize) -> Result<(), u8> {
+    let before = random.bytes(bytes + 8);
     let mut expected = before.clone();
-    let answer = paper::write(report, &mut expected[..length]);
+    let answer = paper::write(report, &mut expected[..bytes]);
     let mut output = before.clone();
-    let refusal = sys::write(*report, &mut output[..length]);
+    let refusal = sys::write(*report, &mut output[..bytes]);
     assert_eq!((refusal, &output), (answer.err().unwrap_or(0), &expected), "{report:?}");
     let mut output = before.clone();
-    let said = report.write(&mut output[..length]);
+    let said = report.write(&mut output[..bytes]);
     assert_eq!((said.map_err(Refusal::number), &output), (answer, &expected), "{report:?}");
     answer
 }
@@ -60,8 +60,8 @@ fn reports_are_written_as_on_paper() {
     let mut tally = Tally::default();
     for _ in 0..150_000 {
         let report = make::report(random);
-        let length = random.pick(&[0, 15, 16, 16, 17, 17, random.index(40)]);
-        let answer = write(random, &report, length);
+        let bytes = random.pick(&[0, 15, 16, 16, 17, 17, random.index(40)]);
+        let answer = write(random, &report, bytes);
         tally.add(answer);
         if answer.is_ok() {
             let mut output = [0; 16];

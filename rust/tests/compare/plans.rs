@@ -25,16 +25,16 @@ fn write_report(
     random: &Random,
     (plan, reports): (&Plan, &Reports),
     k: u32,
-    length: usize,
+    bytes: usize,
 ) -> Result<(), u8> {
-    let before = random.bytes(length + 8);
+    let before = random.bytes(bytes + 8);
     let mut expected = before.clone();
-    let answer = paper::write_report(reports, k, &mut expected[..length]);
+    let answer = paper::write_report(reports, k, &mut expected[..bytes]);
     let mut output = before.clone();
-    let refusal = sys::write_report(*plan, k, &mut output[..length]);
+    let refusal = sys::write_report(*plan, k, &mut output[..bytes]);
     assert_eq!((refusal, &output), (answer.err().unwrap_or(0), &expected), "{k} of {plan:?}");
     let mut output = before.clone();
-    let said = plan.write_report(k, &mut output[..length]);
+    let said = plan.write_report(k, &mut output[..bytes]);
     assert_eq!((said.map_err(Refusal::number), &output), (answer, &expected), "{k} of {plan:?}");
     answer
 }
@@ -53,12 +53,12 @@ fn plans_are_as_on_paper() {
             let any = 1 + random.below(count.max(1));
             let edges = [0, 1, count.wrapping_sub(1), count, count + 1, random.u32(), u32::MAX];
             let k = random.pick(&[any, random.pick(&edges)]);
-            let length = random.pick(&[0, 15, 16, 16, 16, 17, 17, random.index(40)]);
-            writes.add(write_report(random, (&plan, &reports), k, length));
+            let bytes = random.pick(&[0, 15, 16, 16, 16, 17, 17, random.index(40)]);
+            writes.add(write_report(random, (&plan, &reports), k, bytes));
         }
     }
-    counts.finish("report count", &[12]);
-    writes.finish("write report", &[12, 13, 14]);
+    counts.finish("report_count", &[12]);
+    writes.finish("write_report", &[12, 13, 14]);
 }
 
 /// Every report of some plans, each shape of one: one segment, several, a rest of 1, period 1.

@@ -120,9 +120,8 @@ use Rattle.model.specs.declared.Listed.{Listed}
 use Rattle.model.specs.declared.Table.{Table}
 use Rattle.model.specs.Refusals.{noEvent}
 use Rattle.model.specs.Table.{tableOf, valid}
-use Rattle.model.specs.List.{events}
-use Rattle.events.specs.Answer.{answerFor}
-use Rattle.twimbor.proofs.Records.{filled, length-filled, within, asked, answer-is, filled-all}
+use Rattle.model.specs.List.{events, listAnswer}
+use Rattle.twimbor.proofs.Records.{filled, length-filled, within, asked, filled-all}
 use Rattle.twimbor.proofs.Walking.{cell, Var, env, cells, reads, sets, frees-all, after, told, covered, calls-told}
 use Rattle.events.proofs.answer_for.Symbol.{name as #answer-for}
 use Rattle.events.proofs.event_of.Symbol.{name as #event-of}
@@ -365,14 +364,14 @@ module _
 
   module _ (𝓣 : Tables 𝓤 H) where
     abbrev IsAnswer : Listed → Type 0
-    IsAnswer a = (a ≡ answerFor t room) × Is listed.the-row a (listedVals a)
+    IsAnswer a = (a ≡ listAnswer t room) × Is listed.the-row a (listedVals a)
 
     answers : Triple 𝓤 (𝓣 .C #answer-for) (AnswerFor 𝓤 H A mem run)
         → ent 𝓤 (sem 𝓤 H A columns) (𝓣 .C #answer-for (AnswerFor 𝓤 H A mem run .args to-answer-for)
         (λ v. mean 𝓤 H A (told (‵ columns) listedVal IsAnswer v)))
     answers known =
         covered 𝓤 H A W answer-for.ended (answer-for.clauses 𝓤 H A mem run) to-answer-for (‵ columns) (sem 𝓤 H A (fsep own-keys own-heard))
-        listedVals (struct.tells listed.the-type listed′.the-laws) (λ a. a ≡ answerFor t room) (fmOf 𝓤 H (W .laws) 𝓣) known
+        listedVals (struct.tells listed.the-type listed′.the-laws) (λ a. a ≡ listAnswer t room) (fmOf 𝓤 H (W .laws) 𝓣) known
         (goes room (fits .0) _ (id⊢ 𝓤 (emp 𝓤))) back (λ a ws. id⊢ 𝓤 _)
 
     abbrev IsEvent : ℕ → Event → Type 0
@@ -388,7 +387,7 @@ module _
 
   -- FROM THE ANSWER ON
 
-  module _ (a : Listed) (is-listed : Is listed.the-row a (listedVals a)) (small : a .events < 2 ^ 64) (says-a : a ≡ answerFor t room) where
+  module _ (a : Listed) (is-listed : Is listed.the-row a (listedVals a)) (small : a .events < 2 ^ 64) (says-a : a ≡ listAnswer t room) where
     abbrev n : ℕ
     n = a .events
 
@@ -403,7 +402,7 @@ module _
         qed W (Had written) ∵
         suffices ! _ (ends-at 𝓤 H A list.ended stayed (list.clauses 𝓤 H A mem run) W bound (listedVal a) a (tt, (tt, (tt, (written, tt))))
         (tt, (tt, (tt, (length-filled t n lent, tt))))) $
-        says ! (says-a ∙ answer-is t lent, ap (λ (r : Listed). filled t (r .events) lent) says-a ∙ filled-all t lent) $
+        says ! (says-a, ap (λ (r : Listed). filled t (r .events) lent) says-a ∙ filled-all t lent) $
         -- the tokens
         fsplit3 ! $ nothing ! $ move ! (6 ∷ 0 ∷ []) $ join ! $ move ! (1 ∷ 0 ∷ []) $ join ! $ frame ! $
         -- keys, heard, the records

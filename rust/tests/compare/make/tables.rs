@@ -68,8 +68,8 @@ pub fn empty_table(random: &Random) -> Table {
     if random.bool() { any } else { Table { segments: [Segment::default(); 128], ..any } }
 }
 
-/// A table with one test broken, or with any segment in one place. What is changed may be in a
-/// place that holds none; then the table stays valid.
+/// A table with one test broken, often by one bit too high, or with any segment in one place. What
+/// is changed may be in a place that holds none; then the table stays valid.
 pub fn broken_table(random: &Random) -> Table {
     let mut table = table(random);
     let last = table.count.saturating_sub(1);
@@ -77,11 +77,11 @@ pub fn broken_table(random: &Random) -> Table {
     match random.below(9) {
         0 => table.count = random.pick(&[129, 130, 255, 256, 1 << 31, 1 << 32, usize::MAX]),
         1 => table.payload_type = random.pick(&[128, 255]),
-        2 => table.segments[some].code = random.pick(&[16, 255]),
+        2 => table.segments[some].code |= 16 << random.below(4),
         3 => table.segments[some].duration = 0,
-        4 => table.segments[some].volume = random.pick(&[64, 255, 256, 16_383]),
+        4 => table.segments[some].volume |= 64 << random.below(8),
         5 => table.segments[some] = any_segment(random),
-        6 => table.segments[last].offset = random.pick(&[1 << 31, 1 << 32, (1 << 56) - 1]),
+        6 => table.segments[last].offset |= 1 << (31 + random.below(25)),
         7 => table.segments[last] = table.segments[some],
         _ => table.segments.swap(last, some),
     }

@@ -1,11 +1,6 @@
 use Rattle.receive.proofs.Hears.{hears}
 use Rattle.receive.proofs.hearing.hear.Statement.{statement}
 use Rattle.receive.proofs.hearing.hear.Tie as tie
-use Rattle.packet.proofs.payload.payload_of.Reads as payload-of-reads
-use Rattle.packet.proofs.payload.payload_refusal.Reads as payload-refusal-reads
-use Rattle.receive.proofs.hearing.offset_of.Reads as offset-of-reads
-use Rattle.table.proofs.numbers.heard_of.Reads as heard-of-reads
-use Rattle.table.proofs.numbers.key_of.Reads as key-of-reads
 
 payload-of-requires : tie.Need-payload-of-requires
 payload-of-requires c κs = search hears

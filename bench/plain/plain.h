@@ -1,0 +1,14 @@
+/* The library's rules in plain C, on the header's table, to measure against. */
+#include "../../include/twimbor.h"
+
+twimbor_read_result plain_read(const uint8_t *p, size_t n);
+bool plain_is_valid(const twimbor_table *t);
+
+typedef struct {
+    uint8_t refusal;
+    bool is_new;
+} plain_answer;
+plain_answer plain_receive(twimbor_table *t, const uint8_t *p, size_t n);
+plain_answer plain_receive_valid(twimbor_table *t, const uint8_t *p, size_t n);     /* the table passes the tests */
+
+twimbor_listed plain_list(const twimbor_table *t, twimbor_event *out, size_t room);

@@ -1,4 +1,0 @@
-// An empty capture.
-fn main() {
-    listing::run();
-}

@@ -1,4 +1,0 @@
-// A session with a payload type that open refuses.
-fn main() {
-    listing::run();
-}

@@ -1,4 +1,0 @@
-// No session.txt.
-fn main() {
-    listing::run();
-}

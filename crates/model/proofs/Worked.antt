@@ -1,0 +1,167 @@
+-- More worked examples, computed from the definitions: what no theorem speaks of in a packet's form, the order of the
+-- refusals, what a call does to the columns, and segments of two codes between one another. Beside each row stands what it
+-- must be.
+use Prim.Native.Nat.{ℕ, _+_}
+use mathlib.Core.Path.{_≡_, refl}
+use mathlib.Core.Bool.{Bool, true, false}
+use mathlib.Core.List.{List, [], _∷_, _++_, map}
+use lib.ListN.{length, take, replicate}
+use Rattle.model.specs.declared.Report.{Report}
+use Rattle.model.specs.declared.Segment.{Segment}
+use Rattle.model.specs.declared.Event.{Event}
+use Rattle.model.specs.declared.Table.{Table}
+use Rattle.model.specs.declared.Received.{Received}
+use Rattle.model.specs.Refusals.{Told, answered, refusedBy}
+use Rattle.model.specs.Packet.{afterHeader, payload, headerRefusal, payloadRefusal, read, packetOf}
+use Rattle.model.specs.Plan.{segment}
+use Rattle.model.specs.Segments.{rising}
+use Rattle.model.specs.Table.{segmentsFrom, opened, emptyTable, allValid, valid, holds, put}
+use Rattle.model.specs.Receive.{heardIn, receiveRefusal, receive}
+use Rattle.model.specs.Events.{units, loudest, lastEnded, continuesNearest, continuing, eventsFrom, eventsOf}
+
+-- PACKETS
+
+-- twelve bytes of header with a given first byte: M set, payload type 101, sequence 1, timestamp 16, SSRC 7
+abbrev header : ℕ → List ℕ
+header first = first ∷ 0xE5 ∷ 0 ∷ 1 ∷ 0 ∷ 0 ∷ 0 ∷ 16 ∷ 0 ∷ 0 ∷ 0 ∷ 7 ∷ []
+
+-- key 5, E, R set, volume 10, duration 400
+abbrev good : List ℕ
+good = 5 ∷ 0xCA ∷ 1 ∷ 0x90 ∷ []
+
+abbrev report : Report
+report = record {
+  marker = true;
+  «payload_type» = 101;
+  sequence = 1;
+  timestamp = 16;
+  ssrc = 7;
+  code = 5;
+  ended = true;
+  volume = 10;
+  duration = 400;
+}
+
+-- refused, with zeros
+abbrev refused : ℕ → Told Report
+refused n = refusedBy n (record {
+  marker = false;
+  «payload_type» = 0;
+  sequence = 0;
+  timestamp = 0;
+  ssrc = 0;
+  code = 0;
+  ended = false;
+  volume = 0;
+  duration = 0;
+})
+
+-- reading each of these packets tells what stands beside it
+abbrev packets : List (List ℕ × Told Report)
+packets =
+    (take 11 (header 0x80), refused 1)
+    ∷ (header 0x40 ++ good, refused 2)
+    ∷ (header 0x82 ++ (1 ∷ 2 ∷ 3 ∷ 4 ∷ 5 ∷ 6 ∷ 7 ∷ []), refused 3)  -- two CSRCs, one byte short
+    ∷ (header 0x90 ++ (0 ∷ 0 ∷ 0 ∷ []), refused 3)  -- the extension's own four bytes cut
+    ∷ (header 0x90 ++ (0 ∷ 0 ∷ 0 ∷ 1 ∷ 0 ∷ 0 ∷ 0 ∷ []), refused 3)  -- its one word cut
+    ∷ (header 0xA0, refused 4)  -- P, and nothing after the header
+    ∷ (header 0xA0 ++ (good ++ (0 ∷ [])), refused 4)  -- pad count 0
+    ∷ (header 0xA0 ++ (good ++ (6 ∷ [])), refused 4)  -- pad count above the five bytes
+    ∷ (header 0xA0 ++ (good ++ (5 ∷ [])), refused 7)  -- pad count of all five: no payload
+    ∷ (header 0x80 ++ (5 ∷ 0 ∷ 0 ∷ []), refused 7)
+    ∷ (header 0x80 ++ (good ++ good), refused 7)
+    ∷ (header 0x80 ++ (16 ∷ 0 ∷ 0 ∷ []), refused 7)  -- 7 before 8
+    ∷ (header 0x80 ++ (16 ∷ 0 ∷ 0 ∷ 0 ∷ []), refused 8)  -- 8 before 9
+    ∷ (header 0x80 ++ (15 ∷ 0 ∷ 0 ∷ 0 ∷ []), refused 9)
+    ∷ (header 0x80 ++ good, answered report)
+    ∷ (header 0xB2 ++ (replicate 8 9 ++ ((0 ∷ 0 ∷ 0 ∷ 1 ∷ 9 ∷ 9 ∷ 9 ∷ 9 ∷ []) ++ (good ++ (9 ∷ 9 ∷ 3 ∷ [])))), answered report)
+    ∷ []
+
+pub packets-read : map (λ row. read (row .0)) packets ≡ map (λ row. row .1) packets
+unfolding read headerRefusal afterHeader payload payloadRefusal
+packets-read = refl
+
+-- THE RECEIVING CALL
+
+-- the refusals of an empty table, and of one whose payload type fails the tests
+abbrev table : Table
+table = opened 101 7 16 .table
+
+abbrev at : ℕ → List ℕ
+at timestamp = packetOf (record {
+  marker = true;
+  «payload_type» = 101;
+  sequence = 1;
+  timestamp = timestamp;
+  ssrc = 7;
+  code = 5;
+  ended = false;
+  volume = 10;
+  duration = 400;
+})
+
+abbrev calls : List ((Table × List ℕ) × ℕ)
+calls =
+    ((table, at 16), 0)
+    ∷ ((table, at 15), 10)  -- offset 2^32 - 1
+    ∷ ((table, at (16 + 0x7FFF_FFFF)), 0)  -- offset 2^31 - 1
+    ∷ ((table, at (16 + 0x8000_0000)), 10)  -- offset 2^31
+    ∷ ((opened 100 7 16 .table, header 0x80 ++ (5 ∷ 0 ∷ 0 ∷ [])), 5)  -- 5 before 6 and 7
+    ∷ ((opened 101 8 16 .table, header 0x80 ++ (5 ∷ 0 ∷ 0 ∷ [])), 6)  -- 6 before 7
+    ∷ ((opened 100 7 16 .table, header 0xA0), 4)  -- 4 before 5
+    ∷ ((emptyTable 128 7 16, []), 16)  -- 16 before 1
+    ∷ []
+
+pub calls-answer : map (λ row. receive (row .0 .0) (row .0 .1) .answer .refusal) calls ≡ map (λ row. row .1) calls
+unfolding packetOf receive receiveRefusal heardIn valid rising allValid segmentsFrom holds headerRefusal afterHeader payload payloadRefusal
+calls-answer = refl
+
+-- THE COLUMNS
+
+-- three places, of which the first holds offset 100, code 5, duration 400, volume 10
+abbrev one-held : Table
+one-held = record {
+  head = record { «payload_type» = 101; ssrc = 7; origin = 16; count = 1 };
+  keys = 0x6405 ∷ 99 ∷ 98 ∷ [];
+  heard = 0x28_0190 ∷ 97 ∷ 96 ∷ [];
+}
+
+-- the answer, and the columns after it: M is bit 17 of what was heard
+abbrev columns : List (List ℕ × (Received × (List ℕ × List ℕ)))
+columns =
+    -- a new segment moves the one held up, and the place above stays
+    (at 16, (record { refusal = 0; «is_new» = true; count = 2 }, (5 ∷ 0x6405 ∷ 98 ∷ [], 0x2A_0190 ∷ 0x28_0190 ∷ 96 ∷ [])))
+    ∷ (at 117, (record { refusal = 0; «is_new» = true; count = 2 }, (0x6405 ∷ 0x6505 ∷ 98 ∷ [], 0x28_0190 ∷ 0x2A_0190 ∷ 96 ∷ [])))
+    -- a known one
+    ∷ (at 116, (record { refusal = 0; «is_new» = false; count = 1 }, (0x6405 ∷ 99 ∷ 98 ∷ [], 0x2A_0190 ∷ 97 ∷ 96 ∷ [])))
+    -- a refusal leaves all places
+    ∷ (at 15, (record { refusal = 10; «is_new» = false; count = 1 }, (0x6405 ∷ 99 ∷ 98 ∷ [], 0x28_0190 ∷ 97 ∷ 96 ∷ [])))
+    ∷ []
+
+pub columns-after : map (λ row. (receive one-held (row .0) .answer, (receive one-held (row .0) .table .keys, receive one-held (row .0) .table .heard))) columns
+    ≡ map (λ row. row .1) columns
+unfolding packetOf receive receiveRefusal heardIn valid rising allValid segmentsFrom holds put headerRefusal afterHeader payload payloadRefusal
+columns-after = refl
+
+-- EVENTS
+
+abbrev event : ℕ → ℕ → ℕ → ℕ → Bool → Bool → Event
+event code start length volume b e = record { code = code; start = start; length = length; volume = volume; began = b; ended = e }
+
+abbrev segments : List (List Segment × List Event)
+segments =
+    -- two keys between one another, each of two segments; the louder segment gives the volume
+    (
+      segment 0 5 65535 10 false true ∷ segment 9 6 65535 4 false true ∷ segment 65535 5 1 7 true false ∷ segment 65544 6 2 8 true false ∷ [],
+      event 5 0 65536 7 true true ∷ event 6 9 65537 4 true true ∷ [],
+    )
+    -- two codes at one offset; a gap of one unit is no continuation
+    ∷ (
+      segment 0 5 65535 10 false true ∷ segment 0 6 65535 10 false false ∷ segment 65536 5 1 10 true false ∷ [],
+      event 5 0 65535 10 true false ∷ event 6 0 65535 10 false false ∷ event 5 65536 1 10 false true ∷ [],
+    )
+    ∷ []
+
+pub segments-list : map (λ row. eventsOf (row .0)) segments ≡ map (λ row. row .1) segments
+unfolding units loudest lastEnded continuesNearest continuing eventsFrom
+segments-list = refl

@@ -1,0 +1,79 @@
+/* The size of each struct of the header, and each field's place and size, as the archive has them. */
+#include "../include/twimbor.h"
+
+#define SIZE(type, bytes) _Static_assert(sizeof(type) == bytes, #type)
+#define AT(type, field, place, bytes) \
+    _Static_assert(offsetof(type, field) == place && sizeof((*(type *)0).field) == bytes, #type "." #field)
+
+SIZE(twimbor_report, 36);
+AT(twimbor_report, marker, 0, 1);
+AT(twimbor_report, payload_type, 4, 4);
+AT(twimbor_report, sequence, 8, 2);
+AT(twimbor_report, timestamp, 12, 4);
+AT(twimbor_report, ssrc, 16, 4);
+AT(twimbor_report, code, 20, 4);
+AT(twimbor_report, ended, 24, 1);
+AT(twimbor_report, volume, 28, 4);
+AT(twimbor_report, duration, 32, 4);
+
+SIZE(twimbor_plan, 32);
+AT(twimbor_plan, payload_type, 0, 4);
+AT(twimbor_plan, ssrc, 4, 4);
+AT(twimbor_plan, sequence, 8, 2);
+AT(twimbor_plan, start, 12, 4);
+AT(twimbor_plan, code, 16, 4);
+AT(twimbor_plan, volume, 20, 4);
+AT(twimbor_plan, length, 24, 4);
+AT(twimbor_plan, period, 28, 4);
+
+SIZE(twimbor_read_result, 40);
+AT(twimbor_read_result, report, 0, 36);
+AT(twimbor_read_result, refusal, 36, 1);
+
+SIZE(twimbor_count_result, 8);
+AT(twimbor_count_result, reports, 0, 4);
+AT(twimbor_count_result, refusal, 4, 1);
+
+SIZE(twimbor_head, 24);
+AT(twimbor_head, payload_type, 0, 1);
+AT(twimbor_head, ssrc, 4, 4);
+AT(twimbor_head, origin, 8, 4);
+AT(twimbor_head, count, 16, 8);
+
+SIZE(twimbor_table, 1560);
+AT(twimbor_table, head, 0, 24);
+AT(twimbor_table, keys, 24, 1024);
+AT(twimbor_table, heard, 1048, 512);
+
+SIZE(twimbor_segment, 12);
+AT(twimbor_segment, offset, 0, 4);
+AT(twimbor_segment, code, 4, 1);
+AT(twimbor_segment, duration, 6, 2);
+AT(twimbor_segment, volume, 8, 1);
+AT(twimbor_segment, ended, 9, 1);
+AT(twimbor_segment, marked, 10, 1);
+
+SIZE(twimbor_received, 24);
+AT(twimbor_received, refusal, 0, 8);
+AT(twimbor_received, is_new, 8, 1);
+AT(twimbor_received, count, 16, 8);
+
+SIZE(twimbor_event, 16);
+AT(twimbor_event, code, 0, 1);
+AT(twimbor_event, start, 4, 4);
+AT(twimbor_event, length, 8, 4);
+AT(twimbor_event, volume, 12, 1);
+AT(twimbor_event, began, 13, 1);
+AT(twimbor_event, ended, 14, 1);
+
+SIZE(twimbor_event_result, 20);
+AT(twimbor_event_result, event, 0, 16);
+AT(twimbor_event_result, refusal, 16, 1);
+
+SIZE(twimbor_listed, 16);
+AT(twimbor_listed, refusal, 0, 1);
+AT(twimbor_listed, events, 8, 8);
+
+SIZE(twimbor_opened, 1568);
+AT(twimbor_opened, table, 0, 1560);
+AT(twimbor_opened, refusal, 1560, 1);
