@@ -59,7 +59,7 @@ pub extern "C" fn bench_receive_valid(
     packets: &[u8],
     passes: u32,
 ) -> usize {
-    if !table::is_valid(head, keys, heard) {
+    if !valid::is_valid(head, keys, heard) {
         return 0;
     }
     let mut after = head;

@@ -167,7 +167,7 @@ fn written(r: Report, room: usize) {
         return;
     }
     let mut out = [0xEEu8; 17];
-    let a = packet::write(r, &mut out[0..room]);
+    let a = writer::write(r, &mut out[0..room]);
     show::answer(refusal_of(a));
     show::output(out);
 }

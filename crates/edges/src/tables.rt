@@ -4,8 +4,8 @@ use super::show;
 use model::Received;
 use model::Report;
 use model::Table;
-use table::numbers::heard_of;
-use table::numbers::key_of;
+use segment::heard_of;
+use segment::key_of;
 
 const OPENS: usize = 4;
 
@@ -44,7 +44,7 @@ fn open_row(i: usize) {
 
 fn packet_of(r: Report) -> [u8; 16] {
     let mut out = [0u8; 16];
-    packet::write(r, &mut out[0..16]);
+    writer::write(r, &mut out[0..16]);
     out
 }
 
@@ -308,7 +308,7 @@ fn test_row(i: usize) {
     let mut keys = t.keys;
     let mut heard = t.heard;
     show::name(b" passes");
-    show::number(table::is_valid(head, &keys, &heard) as u32);
+    show::number(valid::is_valid(head, &keys, &heard) as u32);
     show::name(b", receive of no bytes");
     show_answer(receive::receive(head, &mut keys, &mut heard, b""));
 }

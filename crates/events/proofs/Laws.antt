@@ -1,310 +1,58 @@
--- Each way through the definitions of Places, and through the two calls, as a law over two columns and their places.
-use Prim.Native.Nat.{ℕ, suc, _+_, _-_, _*_, _≤_, _<_, _%_, min}
-use mathlib.Core.Path.{_≡_, refl, sym, _∙_, ap, ap₂}
-use mathlib.Core.Bool.{Bool, true, false, not, cond}
-use mathlib.Core.List.{List, [], _∷_}
-use native.Mathlib.Numerals.{add-one}
+-- Each way of the walk to an event and through the two calls, as a law over a table's columns.
+use Prim.Native.Nat.{ℕ, suc, _+_, _-_, _≤_, _<_}
+use mathlib.Core.Path.{_≡_, refl, sym, _∙_, ap}
+use mathlib.Core.Bool.{Bool, true, false, not}
+use mathlib.Core.List.{List}
 use native.Mathlib.Omega.{arith}
 use borrow.Author.Needs.{needs}
 use borrow.Author.Tests.{lt-ltb, le-ltb, ltb-true, ltb-false, eq-eqb, ne-eqb, not-true, not-false}
-use lib.Dec.{ltb, eqb}
+use lib.Dec.{ltb}
 use lib.ListN.{length, getD}
-use Rattle.model.specs.declared.Segment.{Segment}
-use Rattle.model.specs.declared.Head.{Head}
 use Rattle.model.specs.declared.Table.{Table}
 use Rattle.model.specs.declared.Event.{Event}
-use Rattle.model.specs.Limits.{isFull}
 use Rattle.model.specs.Refusals.{noEvent, answered, refusedBy}
-use Rattle.model.specs.Table.{segmentAt, segmentsFrom, tableOf, valid}
-use Rattle.model.specs.Events.{units, loudest, lastEnded, eventOf, continues, continuesNearest, continuing, eventsFrom}
+use Rattle.model.specs.Table.{valid}
 use Rattle.model.specs.List.{events, eventAt, listAnswer}
-use Rattle.model.proofs.Tables.{tests-passed, valid-from}
-use Rattle.events.specs.Places.{InRanges, earlier, begins, later, lengthened, eventFrom, eventsIn}
+use Rattle.grouping.specs.Places.{begins, eventFrom, eventsIn}
+use Rattle.grouping.proofs.Laws.{in-ranges, fewer, eventsAfter, all-after, none-after, begun, passed}
 
--- ONE SEGMENT AND THE NEXT
-
-module _ (p s : Segment) (unmarked : s .marked ≡ false) (unended : p .ended ≡ false) where
-  pub short : (p .duration ≡ 65535 → ⊥) → false ≡ continues isFull p s
-  short h = rw (unmarked, unended, ne-eqb (p .duration) 65535 h)
-
-  pub whole : p .duration ≡ 65535 → eqb (p .offset + p .duration) (s .offset) ≡ continues isFull p s
-  whole h = rw (unmarked, unended, eq-eqb (p .duration) 65535 h)
-
--- AN EVENT AND ONE SEGMENT MORE
-
-pub one : (s : Segment)
-    → record { code = s .code; start = s .offset; length = s .duration; volume = s .volume; began = s .marked; ended = s .ended }
-    ≡ eventOf s []
-unfolding units loudest lastEnded
-one s = refl
-
-pub more : (v : Event) (s : Segment) (m : ℕ) → m ≡ min (v .volume) (s .volume)
-    → record { code = v .code; start = v .start; length = v .length + s .duration; volume = m; began = v .began; ended = s .ended }
-    ≡ lengthened v s
-more v s m e = rw e
-
--- an event that segments continue, one after another
-abbrev pub grown : Event → List Segment → Event
-grown v [] = v
-grown v (s ∷ ts) = grown (lengthened v s) ts
-
-grown-by : (v : Event) (s : Segment) (ts : List Segment)
-    → grown v (s ∷ ts)
-    ≡ record {
-      code = v .code;
-      start = v .start;
-      length = v .length + units s ts;
-      volume = min (v .volume) (loudest s ts);
-      began = v .began;
-      ended = lastEnded s ts;
-    }
-unfolding units loudest lastEnded
-grown-by v s [] = refl
-grown-by v s (u ∷ us) =
-    let l : v .length + s .duration + units u us ≡ v .length + (s .duration + units u us) = omega arith in
-    let m : min (min (v .volume) (s .volume)) (loudest u us) ≡ min (v .volume) (min (s .volume) (loudest u us)) = omega arith in
-    grown-by (lengthened v s) u us
-    ∙ (λ i. record { code = v .code; start = v .start; length = l i; volume = m i; began = v .began; ended = lastEnded u us })
-
-grown-alone : (s : Segment) (ts : List Segment) → grown (eventOf s []) ts ≡ eventOf s ts
-unfolding units loudest lastEnded
-grown-alone s [] = refl
-grown-alone s (t ∷ ts) = grown-by (eventOf s []) t ts
-
-cond-same : (b : Bool) {x y : Bool} → x ≡ false → y ≡ false → cond b x y ≡ false
-cond-same true e f = e
-cond-same false e f = f
-
--- a marked segment continues none
-marked-none : (l : List Segment) (s : Segment) → s .marked ≡ true → continuesNearest isFull l s ≡ false
-unfolding continuesNearest
-marked-none [] s h = refl
-marked-none (p ∷ ps) s h = cond-same (eqb (p .code) (s .code)) (rw h) (marked-none ps s h)
-
-cond-not : {A : Type 0} (b : Bool) (x y : A) → cond b x y ≡ cond (not b) y x
-cond-not true x y = refl
-cond-not false x y = refl
+-- THE WALK TO AN EVENT
 
 module _ (keys heard : List ℕ) where
-  -- THE PLACES
-
-  pub in-ranges : (head : Head) → valid (tableOf head keys heard) ≡ true → InRanges keys heard (head .count)
-  in-ranges head v =
-      let p = tests-passed (tableOf head keys heard) v in
-      record { few = p .few; each = λ i h. valid-from keys heard (head .count) 0 (p .each) i (omega arith) (omega arith) }
-
-  pub fewer : (n i : ℕ) → InRanges keys heard n → i < n → InRanges keys heard (i + 1)
-  fewer n i r h = record { few = omega (arith, r .few); each = λ j l. r .each j (omega arith) }
-
-  -- the segments from a place on
-  abbrev rest : ℕ → ℕ → List Segment
-  rest n i = segmentsFrom keys heard i (n - i)
-
-  first : (n i : ℕ) → i < n → rest n i ≡ segmentAt keys heard i ∷ later keys heard n i
-  unfolding segmentsFrom
-  first n i h = let z : n - i ≡ suc (n - (i + 1)) = omega arith in rw (z, add-one i)
-
-  none-left : (n i : ℕ) → n ≤ i → rest n i ≡ []
-  unfolding segmentsFrom
-  none-left n i h = let z : n - i ≡ 0 = omega arith in rw z
-
-  -- LOOKING BACK
-
-  -- whether the segment at place i begins an event: those before place j decide, since none from there on has its code
-  pub record Looking (i j : ℕ) : Type 0 where
-    pub within : j ≤ i
-    pub same : not (continuesNearest isFull (earlier keys heard j) (segmentAt keys heard i)) ≡ begins keys heard i
-
-  module _ (i : ℕ) where
-    pub look-marked : (s : Segment) → s ≡ segmentAt keys heard i → s .marked ≡ true → true ≡ begins keys heard i
-    unfolding begins
-    look-marked s e h = sym (ap not (marked-none (earlier keys heard i) (segmentAt keys heard i) (rw e at h)))
-
-    pub look-starts : Looking i i
-    unfolding begins
-    look-starts = record { within = omega arith; same = refl }
-
-    module _ (j : ℕ) (w : Looking i j) where
-      pub look-ends : j ≤ 0 → true ≡ begins keys heard i
-      unfolding continuesNearest earlier
-      look-ends h = let z : j ≡ 0 = omega arith in rw z at (w .same)
-
-      module _ (some : 0 < j) where
-        back : not (continuesNearest isFull (segmentAt keys heard (j - 1) ∷ earlier keys heard (j - 1)) (segmentAt keys heard i))
-            ≡ begins keys heard i
-        unfolding earlier
-        back =
-            let z : j ≡ suc (j - 1) = omega arith in
-            ap (λ (n : ℕ). not (continuesNearest isFull (earlier keys heard n) (segmentAt keys heard i))) (sym z) ∙ w .same
-
-        pub look-within : InRanges keys heard (i + 1) → InRanges keys heard (j - 1 + 1)
-        look-within r = fewer (i + 1) (j - 1) r (omega (arith, w .within))
-
-        pub look-passes : (getD keys (j - 1) 0 % 256 ≡ getD keys i 0 % 256 → ⊥) → Looking i (j - 1)
-        unfolding continuesNearest
-        look-passes e = record {
-          within = omega (arith, w .within);
-          same = rw (ne-eqb (getD keys (j - 1) 0 % 256) (getD keys i 0 % 256) e) at back;
-        }
-
-        pub look-met : getD keys (j - 1) 0 % 256 ≡ getD keys i 0 % 256 → (p s : Segment) → p ≡ segmentAt keys heard (j - 1)
-            → s ≡ segmentAt keys heard i → (r : Bool) → r ≡ continues isFull p s → not r ≡ begins keys heard i
-        unfolding continuesNearest
-        look-met e p s f g r h =
-            ap not (h ∙ ap₂ (continues isFull) f g)
-            ∙ (rw (eq-eqb (getD keys (j - 1) 0 % 256) (getD keys i 0 % 256) e) at back)
-
-  -- ONE EVENT
-
-  -- the event of place i, so far: what continues its last segment from place j on makes it whole
-  pub record Growing (n i j : ℕ) (v : Event) (last : Segment) : Type 0 where
-    pub reach : j ≤ n
-    pub code : last .code ≡ getD keys i 0 % 256
-    pub long : v .length ≤ j * 65535
-    pub event : grown v (continuing isFull last (rest n j)) ≡ eventFrom keys heard n i
-
-  module _ (n i : ℕ) where
-    pub event-starts : i < n → (s : Segment) → s ≡ segmentAt keys heard i → (v : Event) → v ≡ eventOf s [] → v .length ≤ 65535
-        → Growing n i (i + 1) v s
-    unfolding eventFrom
-    event-starts h s e v f l = record {
-      reach = omega arith;
-      code = ap (λ (x : Segment). x .code) e;
-      long = omega arith;
-      event = rw (f, e) (grown-alone (segmentAt keys heard i) (continuing isFull (segmentAt keys heard i) (later keys heard n i)));
-    }
-
-    module _ (j : ℕ) (v : Event) (last : Segment) (w : Growing n i j v last) where
-      pub event-ends : n ≤ j → v ≡ eventFrom keys heard n i
-      unfolding continuing
-      event-ends h = rw (none-left n j h) at (w .event)
-
-      module _ (less : j < n) where
-        here : grown v (continuing isFull last (segmentAt keys heard j ∷ later keys heard n j)) ≡ eventFrom keys heard n i
-        here = rw (first n j less) at (w .event)
-
-        pub event-passes : (v′ : Event) (last′ : Segment) → v′ ≡ v → last′ ≡ last → (getD keys j 0 % 256 ≡ getD keys i 0 % 256 → ⊥)
-            → Growing n i (j + 1) v′ last′
-        unfolding continuing
-        event-passes v′ last′ f g e = rw (f, g) (record {
-          reach = omega arith;
-          code = w .code;
-          long = omega (arith, w .long);
-          event = rw (ne-eqb (last .code) (getD keys j 0 % 256) (λ x. e (sym x ∙ w .code))) at here;
-        })
-
-        module _ (e : getD keys j 0 % 256 ≡ getD keys i 0 % 256) (s : Segment) (at-j : s ≡ segmentAt keys heard j)
-            (r : Bool) (test : r ≡ continues isFull last s) where
-          same : eqb (last .code) (getD keys j 0 % 256) ≡ true
-          same = eq-eqb (last .code) (getD keys j 0 % 256) (w .code ∙ sym e)
-
-          tested : r ≡ continues isFull last (segmentAt keys heard j)
-          tested = test ∙ ap (continues isFull last) at-j
-
-          pub event-stops : not r ≡ true → v ≡ eventFrom keys heard n i
-          unfolding continuing
-          event-stops x = rw (same, sym tested ∙ not-true r x) at here
-
-          pub event-grows : not r ≡ false → (u : Event) → u ≡ lengthened v s → u .length ≤ v .length + 65535
-              → (u′ : Event) (s′ : Segment) → u′ ≡ u → s′ ≡ s → Growing n i (j + 1) u′ s′
-          unfolding continuing
-          event-grows x u f l u′ s′ g h = rw (g, h) (record {
-            reach = omega arith;
-            code = ap (λ (y : Segment). y .code) at-j ∙ e;
-            long = omega (arith, w .long);
-            event = rw (f, at-j) (rw (same, sym tested ∙ not-false r x) at here);
-          })
-
-  -- THE EVENTS BY NUMBER
-
-  -- those that begin at place i or later
-  unfoldable pub eventsAfter : ℕ → ℕ → List Event
-  eventsAfter n i = eventsFrom isFull (earlier keys heard i) (rest n i)
-
-  all-after : (n : ℕ) → eventsAfter n 0 ≡ eventsIn keys heard n
-  unfolding earlier eventsAfter
-  all-after n = let z : n - 0 ≡ n = omega arith in rw z
-
-  none-after : (n i : ℕ) → n ≤ i → eventsAfter n i ≡ []
-  unfolding eventsFrom eventsAfter
-  none-after n i h = rw (none-left n i h)
-
-  by-test : (n i : ℕ) → i < n
-      → eventsAfter n i ≡ cond (begins keys heard i) (eventFrom keys heard n i ∷ eventsAfter n (i + 1)) (eventsAfter n (i + 1))
-  unfolding earlier begins eventFrom eventsFrom eventsAfter
-  by-test n i h =
-      rw (add-one i, first n i h, add-one i)
-      (cond-not (continuesNearest isFull (earlier keys heard i) (segmentAt keys heard i)) _ _)
-
-  module _ (n i : ℕ) (h : i < n) (b : Bool) (is : b ≡ begins keys heard i) where
-    begun : b ≡ true → eventsAfter n i ≡ eventFrom keys heard n i ∷ eventsAfter n (i + 1)
-    begun e = rw (sym is ∙ e) at (by-test n i h)
-
-    passed : b ≡ false → eventsAfter n i ≡ eventsAfter n (i + 1)
-    passed e = rw (sym is ∙ e) at (by-test n i h)
-
-  -- `count` events begin before place i
-  pub record Counting (n i count : ℕ) : Type 0 where
-    pub reach : i ≤ n
-    pub few : count ≤ i
-    pub sum : count + length (eventsAfter n i) ≡ length (eventsIn keys heard n)
-
-  pub count-starts : (n : ℕ) → Counting n 0 0
-  count-starts n = record { reach = omega arith; few = omega arith; sum = omega (arith, ap length (all-after n)) }
-
-  module _ (n i count : ℕ) (w : Counting n i count) where
-    pub count-ends : n ≤ i → count ≡ length (eventsIn keys heard n)
-    count-ends h = omega (arith, w .sum, ap length (none-after n i h))
-
-    module _ (less : i < n) (b : Bool) (is : b ≡ begins keys heard i) (m : ℕ) where
-      pub count-more : b ≡ true → m ≡ count + 1 → Counting n (i + 1) m
-      count-more e f = record {
-        reach = omega arith;
-        few = omega (arith, w .few);
-        sum = omega (arith, w .sum, ap length (begun n i less b is e));
-      }
-
-      pub count-same : b ≡ false → m ≡ count → Counting n (i + 1) m
-      count-same e f = record {
-        reach = omega arith;
-        few = omega (arith, w .few);
-        sum = omega (arith, w .sum, ap length (passed n i less b is e));
-      }
-
   -- event k begins at place i or later, and has the number `left` among the events that do
   pub record Walking (n k i left : ℕ) : Type 0 where
     pub less : i < n
-    pub some : left < length (eventsAfter n i)
-    pub event : getD (eventsAfter n i) left noEvent ≡ getD (eventsIn keys heard n) k noEvent
+    pub some : left < length (eventsAfter keys heard n i)
+    pub event : getD (eventsAfter keys heard n i) left noEvent ≡ getD (eventsIn keys heard n) k noEvent
 
   -- an event still to come begins at some place
-  walking : (n k i left : ℕ) → left < length (eventsAfter n i)
-      → getD (eventsAfter n i) left noEvent ≡ getD (eventsIn keys heard n) k noEvent → Walking n k i left
+  walking : (n k i left : ℕ) → left < length (eventsAfter keys heard n i)
+      → getD (eventsAfter keys heard n i) left noEvent ≡ getD (eventsIn keys heard n) k noEvent → Walking n k i left
   walking n k i left h e = record { less = go (ltb i n) refl; some = h; event = e }
     where
       go : (b : Bool) → ltb i n ≡ b → i < n
       go true f = ltb-true i n f
-      go false f = absurd (omega (arith, ap length (none-after n i (ltb-false i n f))))
+      go false f = absurd (omega (arith, ap length (none-after keys heard n i (ltb-false i n f))))
 
   pub walk-starts : (n k : ℕ) → k < length (eventsIn keys heard n) → Walking n k 0 k
   walk-starts n k h =
-      walking n k 0 k (omega (arith, ap length (all-after n))) (ap (λ (l : List Event). getD l k noEvent) (all-after n))
+      walking n k 0 k (omega (arith, ap length (all-after keys heard n))) (ap (λ (l : List Event). getD l k noEvent) (all-after keys heard n))
 
   module _ (n k i left : ℕ) (w : Walking n k i left) (b : Bool) (is : b ≡ begins keys heard i) where
     pub walk-passes : b ≡ false → Walking n k (i + 1) left
     walk-passes e =
-        let same = passed n i (w .less) b is e in
+        let same = passed keys heard n i (w .less) b is e in
         walking n k (i + 1) left (rw same at (w .some)) (rw same at (w .event))
 
     module _ (e : b ≡ true) where
       pub walk-on : (left ≡ 0 → ⊥) → Walking n k (i + 1) (left - 1)
       walk-on z =
           let one : left ≡ suc (left - 1) = omega arith in
-          walking n k (i + 1) (left - 1) (omega (arith, w .some, ap length (begun n i (w .less) b is e)))
-          (rw (one, begun n i (w .less) b is e) at (w .event))
+          walking n k (i + 1) (left - 1) (omega (arith, w .some, ap length (begun keys heard n i (w .less) b is e)))
+          (rw (one, begun keys heard n i (w .less) b is e) at (w .event))
 
       pub walk-found : left ≡ 0 → (v : Event) → v ≡ eventFrom keys heard n i → v ≡ getD (eventsIn keys heard n) k noEvent
-      walk-found z v f = f ∙ (rw (z, begun n i (w .less) b is e) at (w .event))
+      walk-found z v f = f ∙ (rw (z, begun keys heard n i (w .less) b is e) at (w .event))
 
 -- THE EVENT AT A NUMBER, AND THE LIST CALL'S ANSWER
 
@@ -341,24 +89,8 @@ module _ (t : Table) (ok : Bool) (test : ok ≡ valid t) where
 
 pub ruleset table-events = (
   needs,
-  short,
-  whole,
-  one,
-  more,
   in-ranges,
   fewer,
-  look-marked,
-  look-starts,
-  look-ends,
-  look-passes,
-  look-met,
-  event-starts,
-  event-ends,
-  event-stops,
-  count-starts,
-  count-ends,
-  count-more,
-  count-same,
   walk-starts,
   walk-passes,
   walk-on,

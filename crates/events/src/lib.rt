@@ -7,16 +7,13 @@ ghost use Rattle.model.specs.Refusals.{toldEvent, noEvent};
 ghost use Rattle.model.specs.Table.{tableOf, valid};
 ghost use Rattle.model.specs.List.{events, eventAt, listAnswer};
 
-mod event;
-mod segments;
-
-use event::event_from;
+use grouping::begins_at;
+use grouping::count_of;
+use grouping::event_from;
 use model::Event;
 use model::EventAnswer;
 use model::Head;
 use model::Listed;
-use segments::begins_at;
-use segments::count_of;
 
 // The event at number k, counted from 0, of a table that passes the tests: a walk to the segment that begins it.
 pub fn event_of<'a>(head: Head, keys: &'a [u64; 128], heard: &'a [u32; 128], k: usize) -> Event
@@ -43,7 +40,7 @@ pub fn event_of<'a>(head: Head, keys: &'a [u64; 128], heard: &'a [u32; 128], k: 
 pub fn event_at<'a>(head: Head, keys: &'a [u64; 128], heard: &'a [u32; 128], k: u32) -> EventAnswer
     ensures { λ r. ⌜ toldEvent r ≡ eventAt (tableOf head (now (keys .entry)) (now (heard .entry))) k ⌝ }
 {
-    if !table::is_valid(head, keys, heard) {
+    if !valid::is_valid(head, keys, heard) {
         return EventAnswer::Refused(model::INVALID_TABLE);
     }
     let number = k as usize;
@@ -66,7 +63,7 @@ pub fn answer_for<'a>(
 ) -> Listed
     ensures { λ r. ⌜ r ≡ listAnswer (tableOf head (now (keys .entry)) (now (heard .entry))) room ⌝ }
 {
-    if !table::is_valid(head, keys, heard) {
+    if !valid::is_valid(head, keys, heard) {
         return Listed {
             refusal: model::INVALID_TABLE,
             events: 0,

@@ -5,8 +5,8 @@ use mathlib.Core.List.{List}
 use lib.Dec.{leb, ltb}
 use lib.ListN.{length}
 use Rattle.model.specs.Packet.{number16}
-use Rattle.framing.specs.declared.frame.Frame.{Frame}
-use Rattle.framing.specs.declared.frame.Frame.the-variants.{Whole, Part, Nothing}
+use Rattle.framing.specs.declared.Frame.{Frame}
+use Rattle.framing.specs.declared.Frame.the-variants.{Whole, Part, Nothing}
 
 -- where a packet starts whose frame stands at a place, and where it ends
 abbrev pub packetStart : ℕ → ℕ

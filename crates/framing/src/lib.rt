@@ -1,8 +1,40 @@
-// What the listing program reads: RFC 4571 frames, and the text of a session.
-mod frame;
-mod session;
+// One RFC 4571 frame in a buffer.
+ghost use mathlib.Core.Path.{_≡_};
+ghost use Prim.Native.Nat.{_≤_};
+ghost use Rattle.framing.specs.Frame.{frameAt};
 
-pub use frame::Frame;
-pub use frame::frame_at;
-pub use session::Session;
-pub use session::session_of;
+// What stands at a place of a buffer: a whole frame, whose packet goes from `start` up to `end`; a part of one, which the
+// buffer's end cuts short; or nothing, at the buffer's end or past it.
+pub enum Frame {
+    Whole { start: usize, end: usize },
+    Part,
+    Nothing,
+}
+
+fn wide(b: u8) -> usize
+    ensures { λ r. ⌜ (r ≡ b) × (r ≤ 255) ⌝ }
+{
+    b as usize
+}
+
+// Tells what stands at a place of a buffer.
+pub fn frame_at(s: &[u8], at: usize) -> Frame
+    ensures { λ r. ⌜ r ≡ frameAt (now (s .entry)) at ⌝ }
+{
+    let n = s.len();
+    if n <= at {
+        return Frame::Nothing;
+    }
+    let left = n - at;
+    if left < 2 {
+        return Frame::Part;
+    }
+    let length = wide(s[at]) * 256 + wide(s[at + 1]);
+    if left - 2 < length {
+        return Frame::Part;
+    }
+    Frame::Whole {
+        start: at + 2,
+        end: at + 2 + length,
+    }
+}

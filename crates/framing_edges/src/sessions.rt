@@ -1,6 +1,6 @@
 // The text of session.txt, good and bad in each way.
-use framing::Session;
-use framing::session_of;
+use session::Session;
+use session::session_of;
 
 fn shown(a: Session) {
     match a {

@@ -2,16 +2,16 @@
 mod capture;
 mod print;
 
-use framing::Session;
-use framing::session_of;
 use model::Table;
+use session::Session;
+use session::session_of;
 
 // Lists what a table holds after a capture. Its tests are made once, here, and receiving keeps them.
 fn list_into(t: Table, capture: i32) {
     let head = t.head;
     let mut keys = t.keys;
     let mut heard = t.heard;
-    if !table::is_valid(head, &keys, &heard) {
+    if !valid::is_valid(head, &keys, &heard) {
         print::bad_session();
         return;
     }

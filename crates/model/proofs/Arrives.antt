@@ -24,7 +24,7 @@ use Rattle.model.proofs.Order.{_≺_, Alike, alike-sym, alike-trans, �
 use Rattle.model.proofs.Segments.{derived-put}
 use Rattle.model.proofs.Keeping.{keeps-alike}
 use Rattle.model.proofs.Packets.{packet-header, packet-payload, packet-fits}
-use Rattle.model.proofs.Tables.{tests-passed, held-length, put-new}
+use Rattle.model.proofs.Tables.{held-length, put-new}
 use Rattle.model.proofs.Receives.{Taken, taken-if, refused-leaves, takes, taken-not-refused}
 use Rattle.model.proofs.Runs.{Reached, start, heard-from, step-taken, arrivals-refused, arrivals-taken}
 use Rattle.model.proofs.Plans.{Says}

@@ -9,7 +9,6 @@ use Rattle.model.specs.declared.Report.{Report}
 use Rattle.model.specs.declared.Plan.{Plan}
 use Rattle.model.specs.declared.Event.{Event}
 use Rattle.model.specs.declared.Table.{Table}
-use Rattle.model.specs.declared.Opened.{Opened}
 use Rattle.model.specs.declared.Listed.{Listed}
 use Rattle.model.specs.Refusals.{Told, answered, refusedBy, toldWrite, toldCount, toldEvent}
 use Rattle.model.specs.declared.WriteAnswer.the-variants as writeAnswer

@@ -197,5 +197,5 @@ pub fn write_report(p: Plan, k: u32, out: &mut [u8]) -> WriteAnswer
         return WriteAnswer::Refused(model::NO_SUCH_NUMBER);
     }
     let r = planned(p, k);
-    packet::write(r, out)
+    writer::write(r, out)
 }

@@ -5,8 +5,8 @@ ghost use Rattle.receive.specs.Sayings.{hearingOf, refusalOfHearing};
 use packet::payload::Payload;
 use packet::payload::payload_of;
 use packet::payload::payload_refusal;
-use table::numbers::heard_of;
-use table::numbers::key_of;
+use segment::heard_of;
+use segment::key_of;
 
 // The two numbers of the segment that a report says something of.
 pub enum Hearing {

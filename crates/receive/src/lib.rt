@@ -60,7 +60,7 @@ pub fn receive(head: Head, keys: &mut [u64; 128], heard: &mut [u32; 128], packet
     ensures { λ r. ⌜ tableOf (holding (r .count) head) (now (keys .exit)) (now (heard .exit))
         ≡ receive (tableOf head (now (keys .entry)) (now (heard .entry))) (now (packet .entry)) .table ⌝ }
 {
-    if !table::is_valid(head, keys, heard) {
+    if !valid::is_valid(head, keys, heard) {
         return refused(model::INVALID_TABLE, head.count);
     }
     receive_valid(head, keys, heard, packet)

@@ -7,7 +7,7 @@ use model::Report;
 // The packet of a report.
 pub fn packet_of(r: Report) -> [u8; 16] {
     let mut out = [0u8; 16];
-    packet::write(r, &mut out[0..16]);
+    writer::write(r, &mut out[0..16]);
     out
 }
 

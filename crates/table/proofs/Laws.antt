@@ -10,20 +10,6 @@ use borrow.Author.Tests.{lt-ltb, le-ltb}
 use Rattle.model.specs.declared.Table.{Table}
 use Rattle.model.specs.Table.{emptyTable, opened}
 use Rattle.table.proofs.Halving.{search-starts, search-ends}
-use Rattle.table.proofs.Keys.{longest-small, one-bit, merged-is}
-use Rattle.table.proofs.Gathers.{
-  no-keys,
-  keys-start,
-  keys-go-on,
-  key-too-far,
-  key-no-code,
-  keys-by-falls,
-  heard-start,
-  heard-goes-on,
-  volume-too-high,
-  heard-by-none,
-}
-use Rattle.table.proofs.Tests.{too-many, wrong-type, keys-fail, by-heard}
 use Rattle.table.proofs.Shifts.{opening-starts, opening-goes-on, key-put-in, told-put-in, stores, stored-length}
 
 module _ (type ssrc origin : ℕ) (t : Table) where
@@ -52,23 +38,6 @@ pub ruleset receiving = (
   stored-length,
   search-starts,
   search-ends,
-  no-keys,
-  keys-start,
-  keys-go-on,
-  key-too-far,
-  key-no-code,
-  keys-by-falls,
-  heard-start,
-  heard-goes-on,
-  volume-too-high,
-  heard-by-none,
-  too-many,
-  wrong-type,
-  keys-fail,
-  by-heard,
-  longest-small,
-  one-bit,
-  merged-is,
   not-there,
   there-if,
 )

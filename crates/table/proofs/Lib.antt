@@ -1,9 +1,6 @@
 pub mod Halving
-pub mod Keys
-pub mod Gathers
 pub mod Shifts
 pub mod Puts
 pub mod Columns
 pub mod Takes
-pub mod Tests
 pub mod Laws

@@ -1,11 +1,8 @@
-// The receiving table: its opening, its tests, and a report taken into columns that are lent.
-pub mod numbers;
+// The receiving table: its opening, and a report taken into columns that are lent.
 mod opening;
 mod places;
 mod taking;
-mod valid;
 
 pub use opening::open;
 pub use taking::refused;
 pub use taking::take;
-pub use valid::is_valid;

@@ -5,12 +5,13 @@ ghost use Prim.Native.Nat.{_≤_, _<_};
 ghost use lib.ListN.{length, getD, set};
 ghost use Rattle.model.specs.Table.{tableOf, holding, valid, segmentOf};
 ghost use Rattle.model.specs.Receive.{refusedWith};
-ghost use Rattle.table.specs.Columns.{insertedAt, mergedHeard, takenInto};
-use super::numbers::merged;
+ghost use Rattle.segment.specs.Merged.{mergedHeard};
+ghost use Rattle.table.specs.Columns.{insertedAt, takenInto};
 use super::places::find;
 use super::places::stands_at;
 use model::Head;
 use model::Received;
+use segment::merged;
 
 // What a receiving call answers that refuses, with as many segments held as before.
 pub fn refused(refusal: u8, count: usize) -> Received

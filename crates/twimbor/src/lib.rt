@@ -94,7 +94,7 @@ pub extern "C" fn twimbor_write(r: Report, out: &mut [u8]) -> u8
     ensures { λ n. ⌜ n ≡ write r (now (out .entry)) .answer .number ⌝ }
     ensures { λ n. ⌜ now (out .exit) ≡ write r (now (out .entry)) .output ⌝ }
 {
-    let a = packet::write(r, out);
+    let a = writer::write(r, out);
     match a {
         WriteAnswer::Written => 0,
         WriteAnswer::Refused(n) => n,
@@ -149,7 +149,7 @@ pub extern "C" fn twimbor_is_valid_columns<'a>(
 ) -> bool
     ensures { λ r. ⌜ r ≡ valid (tableOf head (now (keys .entry)) (now (heard .entry))) ⌝ }
 {
-    table::is_valid(head, keys, heard)
+    valid::is_valid(head, keys, heard)
 }
 
 // Receives a packet: its report is taken into the table, or it is refused with 16 or 1 to 11 and the table is as it was. The

@@ -1,0 +1,88 @@
+// A segment in two numbers: its key, and what was heard of it.
+ghost use mathlib.Core.Path.{_≡_};
+ghost use mathlib.Core.Bool.{true};
+ghost use Prim.Native.Nat.{_+_, _*_, _≤_, min, max};
+ghost use Rattle.model.specs.Packet.{bit};
+ghost use Rattle.model.specs.Table.{segmentOf, validSegment};
+ghost use Rattle.segment.specs.Merged.{mergedHeard};
+use model::Segment;
+
+// The key of an offset and a code.
+pub fn key_of(offset: u32, code: u8) -> u64
+    ensures { λ r. ⌜ r ≡ offset * 256 + code ⌝ }
+{
+    (offset as u64) * 256 + (code as u64)
+}
+
+fn bit(b: bool) -> u32
+    ensures { λ r. ⌜ r ≡ bit b ⌝ }
+    ensures { λ r. ⌜ r ≤ 1 ⌝ }
+{
+    if b {
+        return 1;
+    }
+    0
+}
+
+// Duration, E, M and volume in one number; the only place that puts them together.
+fn joined(duration: u32, ended: u32, marked: u32, volume: u32) -> u32
+    requires { ⌜ duration ≤ 65535 ⌝ }
+    requires { ⌜ ended ≤ 1 ⌝ }
+    requires { ⌜ marked ≤ 1 ⌝ }
+    requires { ⌜ volume ≤ 16383 ⌝ }
+    ensures { λ r. ⌜ r ≡ duration + 0x1_0000 * (ended + 2 * (marked + 2 * volume)) ⌝ }
+{
+    duration + 0x1_0000 * (ended + 2 * (marked + 2 * volume))
+}
+
+// What one report says of its segment.
+pub fn heard_of(duration: u16, volume: u8, ended: bool, marked: bool) -> u32
+    ensures { λ r. ⌜ r ≡ duration + 0x1_0000 * (bit ended + 2 * (bit marked + 2 * volume)) ⌝ }
+{
+    joined(duration as u32, bit(ended), bit(marked), volume as u32)
+}
+
+fn larger(a: u32, b: u32) -> u32
+    ensures { λ r. ⌜ r ≡ max a b ⌝ }
+{
+    if a < b {
+        return b;
+    }
+    a
+}
+
+// Of two volume numbers the smaller, which is the louder.
+pub fn smaller(a: u32, b: u32) -> u32
+    ensures { λ r. ⌜ r ≡ min a b ⌝ }
+{
+    if b < a {
+        return b;
+    }
+    a
+}
+
+// What two reports of one segment say together: the larger duration, E and M if either has it, the smaller volume number.
+pub fn merged(told: u32, held: u32) -> u32
+    ensures { λ r. ⌜ r ≡ mergedHeard told held ⌝ }
+{
+    let duration = larger(told % 0x1_0000, held % 0x1_0000);
+    let ended = larger(told / 0x1_0000 % 2, held / 0x1_0000 % 2);
+    let marked = larger(told / 0x2_0000 % 2, held / 0x2_0000 % 2);
+    let volume = smaller(told / 0x4_0000, held / 0x4_0000);
+    joined(duration, ended, marked, volume)
+}
+
+// The segment of two numbers, for one within its ranges.
+pub fn segment_of(key: u64, heard: u32) -> Segment
+    requires { ⌜ validSegment (segmentOf key heard) ≡ true ⌝ }
+    ensures { λ r. ⌜ r ≡ segmentOf key heard ⌝ }
+{
+    Segment {
+        offset: (key / 256) as u32,
+        code: (key % 256) as u8,
+        duration: (heard % 0x1_0000) as u16,
+        volume: (heard / 0x4_0000) as u8,
+        ended: heard / 0x1_0000 % 2 == 1,
+        marked: heard / 0x2_0000 % 2 == 1,
+    }
+}

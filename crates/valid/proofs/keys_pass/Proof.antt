@@ -1,0 +1,94 @@
+-- The gathered bits tell of all keys so far.
+use Prim.Native.Nat.{_-_}
+use Rattle.valid.proofs.Gathers.{Keyed, keys-go-on}
+use borrow.Author.Needs.{needs}
+use Rattle.valid.proofs.Laws.{testing}
+use Rattle.valid.proofs.keys_pass.Statement.{statement}
+use Rattle.valid.proofs.keys_pass.Tie as tie
+
+abbrev Inv-loop : tie.InvT-loop
+Inv-loop keys n bits₀ falls₀ i₀ bits falls i = Keyed keys n i bits falls
+
+abbrev μ-loop : tie.MeasureT-loop
+μ-loop keys n bits₀ falls₀ i₀ bits falls i = n - i
+
+returns : tie.Need-returns Inv-loop μ-loop
+returns c = search testing
+
+element-copy-out-bits : tie.Need-element-copy-out-bits Inv-loop μ-loop
+element-copy-out-bits c = search testing
+
+loop-holds : tie.Need-loop-holds Inv-loop μ-loop
+loop-holds c = search testing
+
+mul-key : tie.Need-mul-key Inv-loop μ-loop
+mul-key c = search testing
+
+element-copy-out-key : tie.Need-element-copy-out-key Inv-loop μ-loop
+element-copy-out-key c = search testing
+
+sub-wrapping-sub-u64 : tie.Need-sub-wrapping-sub-u64 Inv-loop μ-loop
+sub-wrapping-sub-u64 c = search testing
+
+mul-wrapping-sub-u64 : tie.Need-mul-wrapping-sub-u64 Inv-loop μ-loop
+mul-wrapping-sub-u64 c = search testing
+
+element-copy-out-wrapping-sub-u64 : tie.Need-element-copy-out-wrapping-sub-u64 Inv-loop μ-loop
+element-copy-out-wrapping-sub-u64 c = search testing
+
+wrapping-sub-u64-requires : tie.Need-wrapping-sub-u64-requires Inv-loop μ-loop
+wrapping-sub-u64-requires c κs = search testing
+
+wrapping-sub-u64-requires-2 : tie.Need-wrapping-sub-u64-requires-2 Inv-loop μ-loop
+wrapping-sub-u64-requires-2 c κs = search testing
+
+add-i : tie.Need-add-i Inv-loop μ-loop
+add-i c = search testing
+
+loop-less : tie.Need-loop-less Inv-loop μ-loop
+loop-less c = search testing
+
+-- the key less the one before it, from that less one
+abbrev less-before : tie.After-wrapping-sub-u642 Inv-loop μ-loop → tie.After-wrapping-sub-u64 Inv-loop μ-loop
+less-before c = c .before
+
+abbrev turn : tie.After-wrapping-sub-u64 Inv-loop μ-loop → tie.In-loop Inv-loop μ-loop
+turn c = c .before .before .before
+
+loop-again : tie.Need-loop-again Inv-loop μ-loop
+loop-again c =
+    let b = less-before c in
+    keys-go-on _ _ _ _ _ (turn b .before .loop .inv) (turn b .loop-test .taken) _ _ (b .wrapping-sub-u64 .ensures) (c .wrapping-sub-u642 .ensures)
+    (search needs) (search needs)
+
+returns-2 : tie.Need-returns-2 Inv-loop μ-loop
+returns-2 c = search testing
+
+returns-3 : tie.Need-returns-3 Inv-loop μ-loop
+returns-3 c = search testing
+
+returns-4 : tie.Need-returns-4 Inv-loop μ-loop
+returns-4 c = search testing
+
+pub keys-pass-spec : {M : Type 1} → statement M
+keys-pass-spec =
+    tie.close
+    (tie.spec
+    Inv-loop
+    μ-loop
+    returns
+    element-copy-out-bits
+    loop-holds
+    mul-key
+    element-copy-out-key
+    sub-wrapping-sub-u64
+    mul-wrapping-sub-u64
+    element-copy-out-wrapping-sub-u64
+    wrapping-sub-u64-requires
+    wrapping-sub-u64-requires-2
+    add-i
+    loop-less
+    loop-again
+    returns-2
+    returns-3
+    returns-4)
