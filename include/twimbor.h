@@ -27,7 +27,7 @@ enum {
     TWIMBOR_BAD_PADDING = 4,        /* pad count 0 or above the bytes after the header */
     TWIMBOR_OTHER_PAYLOAD_TYPE = 5, /* not the table's payload type */
     TWIMBOR_OTHER_SSRC = 6,         /* not the table's SSRC */
-    TWIMBOR_NOT_ONE_REPORT = 7,     /* payload not 4 bytes */
+    TWIMBOR_NOT_ONE_REPORT = 7,     /* payload not 4 bytes, and not packed */
     TWIMBOR_CODE_TOO_HIGH = 8,      /* code above 15 */
     TWIMBOR_NO_DURATION = 9,        /* duration 0 */
     TWIMBOR_OFFSET_TOO_LARGE = 10,  /* offset 2^31 or more */
@@ -36,7 +36,8 @@ enum {
     TWIMBOR_NO_SUCH_NUMBER = 13,    /* report or event number 0 or above the count */
     TWIMBOR_OUTPUT_TOO_SMALL = 14,  /* output has fewer than 16 bytes */
     TWIMBOR_LIST_TOO_SMALL = 15,    /* lent list has fewer records than there are events */
-    TWIMBOR_INVALID_TABLE = 16      /* table fails a test */
+    TWIMBOR_INVALID_TABLE = 16,     /* table fails a test */
+    TWIMBOR_PACKED = 17             /* payload of 8, 12 or more bytes in whole fours: several reports */
 };
 
 /* One report on the wire. */
@@ -77,8 +78,9 @@ typedef struct {
 /* Reads a packet: the one report that it carries. CSRC list, extension and padding are passed over.
  *
  * Refused, in this order: 1 with fewer than 12 bytes; 2 if the version is not 2; 3 if the CSRC list or the extension runs past
- * the end; 4 if P is set and the pad count is 0 or above the bytes after header, CSRC list and extension; 7 if the payload is
- * not 4 bytes; 8 if the code is above 15; 9 if the duration is 0. The report is then all zeros. */
+ * the end; 4 if P is set and the pad count is 0 or above the bytes after header, CSRC list and extension; 17 if the payload has
+ * 8, 12 or more bytes in whole fours, which are several reports; 7 if it is not 4 bytes otherwise; 8 if the code is above 15; 9
+ * if the duration is 0. The report is then all zeros. */
 twimbor_read_result twimbor_read(const uint8_t *packet, size_t bytes);
 
 /* Writes the 16 bytes of a report's packet at the start of the output; the bytes after them stay. No CSRC list, extension or
@@ -197,8 +199,8 @@ static inline bool twimbor_is_valid(const twimbor_table *table)
  * held before. A new segment moves those after it up by one place; the places above them stay.
  *
  * Refused, in this order: 16 if the table fails its tests; 1 to 4 as by twimbor_read; 5 if it is another payload type than the
- * table's; 6 if it is another SSRC; 7 to 9 as by twimbor_read; 10 if the offset is 2^31 or more; 11 if 128 segments are held
- * and this pair is none of them. The table then is as it was, in every place. */
+ * table's; 6 if it is another SSRC; 17, 7, 8 and 9 as by twimbor_read; 10 if the offset is 2^31 or more; 11 if 128 segments
+ * are held and this pair is none of them. The table then is as it was, in every place. */
 static inline twimbor_received twimbor_receive(twimbor_table *table, const uint8_t *packet, size_t bytes)
 {
     twimbor_received received = twimbor_receive_columns(table->head, table->keys, table->heard, packet, bytes);

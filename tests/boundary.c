@@ -73,6 +73,24 @@ static bool has(const uint8_t *packet)
     return memcmp(output, want, sizeof want) == 0;
 }
 
+/* A packet that begins as the first report, of so many bytes: one report fewer or more than one, up to the longest in a frame of
+ * RFC 4571. */
+static const struct {
+    size_t bytes;
+    uint8_t refusal;
+} lengths[] = {
+    {12, TWIMBOR_NOT_ONE_REPORT}, {15, TWIMBOR_NOT_ONE_REPORT}, {19, TWIMBOR_NOT_ONE_REPORT}, {20, TWIMBOR_PACKED},
+    {21, TWIMBOR_NOT_ONE_REPORT}, {24, TWIMBOR_PACKED}, {65532, TWIMBOR_PACKED}, {65535, TWIMBOR_NOT_ONE_REPORT},
+};
+enum { LENGTHS = sizeof lengths / sizeof *lengths };
+
+static const uint8_t *long_packet(void)
+{
+    static uint8_t packet[65535];
+    memcpy(packet, REPORTS[0], 16);
+    return packet;
+}
+
 static void packets(void)
 {
     fresh();
@@ -83,10 +101,13 @@ static void packets(void)
     EXPECT(r.refusal == 0 && !r.report.marker && r.report.sequence == 0 && r.report.ended);
 
     static const twimbor_report zeros;
-    r = twimbor_read(output, 15);
-    EXPECT(r.refusal == TWIMBOR_NOT_ONE_REPORT && same_report(r.report, zeros));
     r = twimbor_read(output, 0);
     EXPECT(r.refusal == TWIMBOR_TOO_SHORT && same_report(r.report, zeros));
+
+    for (size_t i = 0; i < LENGTHS; i++) {
+        r = twimbor_read(long_packet(), lengths[i].bytes);
+        EXPECT(r.refusal == lengths[i].refusal && same_report(r.report, zeros));
+    }
 
     fresh();
     EXPECT(twimbor_write(FIRST, output, 15) == TWIMBOR_OUTPUT_TOO_SMALL && has(NULL));
@@ -161,6 +182,10 @@ static void receiving(void)
 
     twimbor_received r = twimbor_receive(table, REPORTS[0], 0);
     EXPECT(r.refusal == TWIMBOR_TOO_SHORT && !r.is_new && r.count == 1 && same_table(table, &want));
+    for (size_t i = 0; i < LENGTHS; i++) {
+        r = twimbor_receive(table, long_packet(), lengths[i].bytes);
+        EXPECT(r.refusal == lengths[i].refusal && !r.is_new && r.count == 1 && same_table(table, &want));
+    }
 
     /* Up to the last place: each new segment moves all but the first. */
     twimbor_report report = FIRST;

@@ -45,7 +45,7 @@ int main(void)
     static twimbor_table t;
     t.head = (twimbor_head){(uint8_t)type, ssrc, origin, 0};
     if (!plain_is_valid(&t)) return 1;
-    uint64_t taken = 0, refused = 0;
+    uint64_t taken = 0, refused = 0, packed = 0;
     size_t kept = 0;
     ssize_t got;
     while ((got = read(0, buffer + kept, sizeof buffer - kept)) > 0) {
@@ -53,7 +53,8 @@ int main(void)
         while (n - at >= 2) {
             size_t length = (size_t)buffer[at] << 8 | buffer[at + 1];
             if (n - at - 2 < length) break;
-            if (plain_receive_valid(&t, buffer + at + 2, length).refusal == 0) taken++; else refused++;
+            uint8_t refusal = plain_receive_valid(&t, buffer + at + 2, length).refusal;
+            if (refusal == 0) taken++; else { refused++; packed += refusal == 17; }
             at += 2 + length;
         }
         memmove(buffer, buffer + at, n - at);
@@ -63,6 +64,6 @@ int main(void)
     size_t events = plain_list(&t, out, 128).events;
     for (size_t k = 0; k < events; k++)
         printf("start=%u\nkey=%u\nunits=%u\nvolume=%u\nbegan=%d\nended=%d\n", out[k].start, out[k].code, out[k].length, out[k].volume, out[k].began, out[k].ended);
-    printf("events=%zu\ntaken=%llu\nrefused=%llu\ncut=%d\n", events, (unsigned long long)taken, (unsigned long long)refused, kept > 0);
+    printf("events=%zu\ntaken=%llu\nrefused=%llu\npacked=%llu\ncut=%d\n", events, (unsigned long long)taken, (unsigned long long)refused, (unsigned long long)packed, kept > 0);
     return 0;
 }

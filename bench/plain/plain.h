@@ -2,6 +2,7 @@
 #include "../../include/twimbor.h"
 
 twimbor_read_result plain_read(const uint8_t *p, size_t n);
+uint8_t plain_misfit(size_t length);    /* the refusal of a payload that is not 4 bytes; inlined, it slows plain_receive down */
 bool plain_is_valid(const twimbor_table *t);
 
 typedef struct {

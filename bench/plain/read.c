@@ -19,7 +19,7 @@ twimbor_read_result plain_read(const uint8_t *p, size_t n)
         if (pad == 0 || n - at < pad) { r.refusal = 4; return r; }
         end -= pad;
     }
-    if (end - at != 4) { r.refusal = 7; return r; }
+    if (end - at != 4) { r.refusal = plain_misfit(end - at); return r; }
     if (p[at] > 15) { r.refusal = 8; return r; }
     uint32_t duration = (uint32_t)p[at + 2] << 8 | p[at + 3];
     if (duration == 0) { r.refusal = 9; return r; }
@@ -33,4 +33,9 @@ twimbor_read_result plain_read(const uint8_t *p, size_t n)
     r.report.volume = p[at + 1] & 63;
     r.report.duration = duration;
     return r;
+}
+
+uint8_t plain_misfit(size_t length)
+{
+    return length >= 8 && length % 4 == 0 ? 17 : 7;
 }

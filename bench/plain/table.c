@@ -70,7 +70,7 @@ INLINE plain_answer receive_valid(twimbor_table *t, const uint8_t *p, size_t n)
     }
     if ((p[1] & 127) != t->head.payload_type) return (plain_answer){5, false};
     if (number_32(p + 8) != t->head.ssrc) return (plain_answer){6, false};
-    if (end - at != 4) return (plain_answer){7, false};
+    if (end - at != 4) return (plain_answer){plain_misfit(end - at), false};
     if (p[at] > 15) return (plain_answer){8, false};
     uint32_t units = (uint32_t)p[at + 2] << 8 | p[at + 3];
     if (units == 0) return (plain_answer){9, false};

@@ -2,9 +2,11 @@ use std::error::Error;
 use std::fmt;
 
 /// Why a call refused what it was given. It gives the first reason that holds: [`InvalidTable`]
-/// before all others, then by rising number.
+/// before all others, then by rising number, but [`Packed`] at the place of [`NotOneReport`].
 ///
 /// [`InvalidTable`]: Refusal::InvalidTable
+/// [`Packed`]: Refusal::Packed
+/// [`NotOneReport`]: Refusal::NotOneReport
 ///
 /// ```
 /// use twimbor::{Refusal, Report};
@@ -29,7 +31,7 @@ pub enum Refusal {
     OtherPayloadType = 5,
     /// Not the table's SSRC.
     OtherSsrc = 6,
-    /// The payload is not 4 bytes.
+    /// The payload is not 4 bytes, and not packed.
     NotOneReport = 7,
     /// The code is above 15.
     CodeTooHigh = 8,
@@ -49,13 +51,15 @@ pub enum Refusal {
     ListTooSmall = 15,
     /// The table fails a test; see [`Table::is_valid`](crate::Table::is_valid).
     InvalidTable = 16,
+    /// The payload has 8, 12 or more bytes in whole fours: several reports in one packet.
+    Packed = 17,
 }
 
 use Refusal::*;
 
 impl Refusal {
     /// All refusals, by number.
-    pub const ALL: [Refusal; 16] = [
+    pub const ALL: [Refusal; 17] = [
         TooShort,
         WrongVersion,
         HeaderPastEnd,
@@ -72,9 +76,10 @@ impl Refusal {
         OutputTooSmall,
         ListTooSmall,
         InvalidTable,
+        Packed,
     ];
 
-    /// The refusal's number, 1 to 16.
+    /// The refusal's number, 1 to 17.
     pub fn number(self) -> u8 {
         self as u8
     }
@@ -102,6 +107,7 @@ impl fmt::Display for Refusal {
                 "the table has more than 128 segments, segments out of order, or a number \
                  outside its range"
             }
+            Packed => "the packet's payload is several reports packed together",
         })
     }
 }

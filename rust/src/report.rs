@@ -47,7 +47,7 @@ pub struct Report {
 }
 
 impl Report {
-    /// The report that a packet carries. Refusals: 1, 2, 3, 4, 7, 8, 9.
+    /// The report that a packet carries. Refusals: 1, 2, 3, 4, 17 or 7, 8, 9.
     pub fn read(packet: &[u8]) -> Result<Report, Refusal> {
         let result = sys::read(packet);
         unless_refused(result.refusal, result.report)

@@ -139,7 +139,8 @@ impl Table {
         sys::is_valid_columns(self.head, &self.keys, &self.heard)
     }
 
-    /// Receives a packet. Refusals: 16, then 1 to 11; the table stays as it was.
+    /// Receives a packet. Refusals: 16, then 1 to 11 with 17 at the place of
+    /// 7; the table stays as it was.
     pub fn receive(&mut self, packet: &[u8]) -> Result<Taken, Refusal> {
         let received = sys::receive_columns(self.head, &mut self.keys, &mut self.heard, packet);
         self.head.count = received.count;

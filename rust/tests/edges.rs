@@ -1,4 +1,5 @@
-//! The rows of document 01, "Both sides of each edge", and the words of the refusals.
+//! The rows of document 01, "Both sides of each edge", those of packed packets, and the words of the
+//! refusals.
 
 use std::collections::HashSet;
 use twimbor::{Event, Plan, Refusal, Report, Segment, Table, Taken};
@@ -92,6 +93,23 @@ fn a_full_table_takes_what_it_knows() {
 }
 
 #[test]
+fn packed_packets_hold_two_or_more_whole_reports() {
+    let mut table = Table::open(P7.payload_type, P7.ssrc, P7.start).unwrap();
+    let report = P7.packets().unwrap().next().unwrap();
+    for bytes in 0..=13 {
+        let payload = report[12..].iter().cycle().take(bytes);
+        let packet: Vec<u8> = report[..12].iter().chain(payload).copied().collect();
+        let expected = match bytes {
+            4 => Ok(()),
+            8 | 12 => Err(17),
+            _ => Err(7),
+        };
+        assert_eq!(Report::read(&packet).map(|_| ()).map_err(Refusal::number), expected);
+        assert_eq!(table.receive(&packet).map(|_| ()).map_err(Refusal::number), expected);
+    }
+}
+
+#[test]
 fn volume_ends_at_63() {
     let report = Report { volume: 63, duration: 1, ..Report::default() };
     assert_eq!(report.write(&mut [0; 16]), Ok(()));
@@ -101,7 +119,7 @@ fn volume_ends_at_63() {
 
 #[test]
 fn each_refusal_has_its_number_and_words() {
-    assert!(Refusal::ALL.map(Refusal::number).into_iter().eq(1..=16));
+    assert!(Refusal::ALL.map(Refusal::number).into_iter().eq(1..=17));
     let words = Refusal::ALL.map(|refusal| refusal.to_string());
-    assert_eq!(HashSet::from(words).len(), 16);
+    assert_eq!(HashSet::from(words).len(), 17);
 }

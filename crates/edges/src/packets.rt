@@ -4,11 +4,11 @@ use model::ReadAnswer;
 use model::Report;
 use model::WriteAnswer;
 
-const READS: usize = 34;
+const READS: usize = 46;
 
 // A row has the packet's first byte, two places with the four bytes that stand there, and how many bytes are read. The other
 // bytes of the header say M, payload type 101, sequence 1, timestamp 16, SSRC 7; all else is 0.
-const READ: [u32; 204] = [
+const READ: [u32; 276] = [
     0x80, 12, 0x05CA0190, 40, 0, 0,                 // no bytes
     0x80, 12, 0x05CA0190, 40, 0, 11,
     0x80, 12, 0x05CA0190, 40, 0, 12,                // the header alone
@@ -30,9 +30,21 @@ const READ: [u32; 204] = [
     0xA0, 12, 0x05CA0190, 16, 5, 20,
     0xA0, 12, 0x05CA0190, 16, 8, 20,
     0xA0, 12, 0x05CA0190, 16, 9, 20,
-    0x80, 12, 0x05CA0190, 40, 0, 15,                // payloads of 3, 5 and 8 bytes
+    0x80, 12, 0x05CA0190, 40, 0, 15,                // payloads of 3, 5, 6 and 7 bytes
     0x80, 12, 0x05CA0190, 40, 0, 17,
-    0x80, 12, 0x05CA0190, 16, 0x05CA0190, 20,
+    0x80, 12, 0x05CA0190, 40, 0, 18,
+    0x80, 12, 0x05CA0190, 40, 0, 19,
+    0x80, 12, 0x05CA0190, 16, 0x05CA0190, 20,       // of 8, 9, 11, 12, 51 and 52 bytes
+    0x80, 12, 0x05CA0190, 16, 0x05CA0190, 21,
+    0x80, 12, 0x05CA0190, 16, 0x05CA0190, 23,
+    0x80, 12, 0x05CA0190, 16, 0x05CA0190, 24,
+    0x80, 12, 0x05CA0190, 16, 0x05CA0190, 63,
+    0x80, 12, 0x05CA0190, 16, 0x05CA0190, 64,
+    0x80, 12, 0x100A0000, 16, 0x05CA0190, 20,       // 17 before 8 and 9
+    0xA0, 12, 0x05CA0190, 20, 4, 24,                // 8 bytes and a padding of 4
+    0xA0, 12, 0x05CA0190, 16, 1, 20,                // 7 and 1
+    0xA0, 12, 0x05CA0190, 20, 13, 24,               // 4 before 17
+    0x92, 20, 0x09090001, 28, 0x05CA0190, 36,       // 8 after two CSRCs and an extension
     0x80, 12, 0x0F0A0190, 40, 0, 16,                // code 15
     0x80, 12, 0x100A0190, 40, 0, 16,                // code 16
     0x80, 12, 0x100A0000, 40, 0, 16,                // code 16 and duration 0
@@ -46,7 +58,7 @@ const READ: [u32; 204] = [
 ];
 
 fn read_cell(at: usize) -> u32 {
-    if 204 <= at {
+    if 276 <= at {
         return 0;
     }
     READ[at]

@@ -6,7 +6,6 @@ ghost use lib.ListN.{length, getD};
 ghost use Rattle.model.specs.Refusals.{toldEvent, noEvent};
 ghost use Rattle.model.specs.Table.{tableOf, valid};
 ghost use Rattle.model.specs.List.{events, eventAt, listAnswer};
-
 use grouping::begins_at;
 use grouping::count_of;
 use grouping::event_from;

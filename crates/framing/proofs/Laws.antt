@@ -62,13 +62,14 @@ module _ (bs : List ℕ) (at a e : ℕ) where
           (p, q, omega (arith, q, ltb-false (length bs) (at + 2 + (byte bs at * 256 + byte bs (at + 1))) h))
 
   module _ (f : Frame) (is : f ≡ frameAt bs at) (w : f ≡ Whole a e) where
-    pub whole-ahead : at < e
-    whole-ahead = let x = whole-is (sym w ∙ is) in omega (arith, x .1)
-
     pub whole-ordered : a ≤ e
     whole-ordered = let x = whole-is (sym w ∙ is) in omega (arith, x .0, x .1)
 
     pub whole-within : e ≤ length bs
     whole-within = whole-is (sym w ∙ is) .2
+
+    -- fewer bytes come after it than from its place on
+    pub whole-passed : length bs - e < length bs - at
+    whole-passed = let x = whole-is (sym w ∙ is) in omega (arith, x .1, x .2)
 
 pub ruleset framing = (needs, nothing-there, length-cut, packet-cut, packet-whole)

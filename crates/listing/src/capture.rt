@@ -4,26 +4,24 @@ ghost use mathlib.Core.Bool.{true};
 ghost use Prim.Native.Nat.{_+_, _-_, _≤_};
 ghost use lib.ListN.{length};
 ghost use Rattle.model.specs.Table.{tableOf, valid};
+use super::counts::Counts;
+use super::counts::counted;
 use framing::Frame;
 use framing::frame_at;
 use model::Head;
-use model::Received;
 use receive::receive_valid;
 
-// What has been received: the head of the table whose columns are lent, how many frames, how many of them were taken, and
-// whether the last one was cut short.
+// What has been received: the head of the table whose columns are lent, the counts, and whether the last frame was cut short.
 pub struct Capture {
     pub head: Head,
-    pub frames: u64,
-    pub taken: u64,
+    pub counts: Counts,
     pub cut: bool,
 }
 
 // What has been received, and the place up to which the buffer was.
 struct Passed {
     head: Head,
-    frames: u64,
-    taken: u64,
+    counts: Counts,
     at: usize,
 }
 
@@ -34,43 +32,31 @@ fn buffer() -> [u8; 131072]
     [0; 131072]
 }
 
-// 1 if a packet was taken, else 0.
-fn counted(a: Received) -> u64 {
-    if a.refusal == 0 {
-        return 1;
-    }
-    0
-}
-
 // Receives the whole frames at the start of a buffer, up to the first one that is not.
 fn pass(p: Passed, keys: &mut [u64; 128], heard: &mut [u32; 128], s: &[u8]) -> Passed
     requires { ⌜ valid (tableOf (p .head) (now keys) (now heard)) ≡ true ⌝ }
     ensures { λ r. ⌜ (valid (tableOf (r .head) (now (keys .exit)) (now (heard .exit))) ≡ true) × (r .at ≤ length (now (s .entry))) ⌝ }
 {
     let mut head = p.head;
-    let mut frames = p.frames;
-    let mut taken = p.taken;
+    let mut counts = p.counts;
     let mut at = 0usize;
     while at < s.len() {
         let f = frame_at(s, at);
         let Frame::Whole { start, end } = f else {
             return Passed {
                 head: head,
-                frames: frames,
-                taken: taken,
+                counts: counts,
                 at: at,
             };
         };
         let got = receive_valid(head, keys, heard, &s[start..end]);
         head.count = got.count;
-        frames = std::num::wrapping_add_u64(frames, 1);
-        taken = std::num::wrapping_add_u64(taken, counted(got));
+        counts = counted(counts, got.refusal);
         at = end;
     }
     Passed {
         head: head,
-        frames: frames,
-        taken: taken,
+        counts: counts,
         at: at,
     }
 }
@@ -113,10 +99,14 @@ pub fn received(head: Head, keys: &mut [u64; 128], heard: &mut [u32; 128], file:
 {
     let mut space = buffer();
     let b: &mut [u8] = &mut space;
+    let none = Counts {
+        taken: 0,
+        refused: 0,
+        packed: 0,
+    };
     let mut p = Passed {
         head: head,
-        frames: 0,
-        taken: 0,
+        counts: none,
         at: 0,
     };
     let mut kept = 0usize;
@@ -134,10 +124,10 @@ pub fn received(head: Head, keys: &mut [u64; 128], heard: &mut [u32; 128], file:
         }
     }
     let after = p.head;
+    let counts = p.counts;
     Capture {
         head: after,
-        frames: p.frames,
-        taken: p.taken,
+        counts: counts,
         cut: 0 < kept,
     }
 }

@@ -1,5 +1,6 @@
 // The listing program: a session and a capture are read, and the capture's events printed.
 mod capture;
+mod counts;
 mod print;
 
 use model::Table;

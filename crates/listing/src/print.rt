@@ -41,7 +41,9 @@ fn events<'a>(head: Head, keys: &'a [u64; 128], heard: &'a [u32; 128]) -> u32 {
 pub fn listing<'a>(c: Capture, keys: &'a [u64; 128], heard: &'a [u32; 128]) {
     let n = events(c.head, keys, heard);
     line(b"events=", n as u64);
-    line(b"taken=", c.taken);
-    line(b"refused=", std::num::wrapping_sub_u64(c.frames, c.taken));
+    let counts = c.counts;
+    line(b"taken=", counts.taken);
+    line(b"refused=", counts.refused);
+    line(b"packed=", counts.packed);
     line(b"cut=", c.cut as u64);
 }

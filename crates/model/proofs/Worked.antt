@@ -69,7 +69,12 @@ packets =
     ∷ (header 0xA0 ++ (good ++ (6 ∷ [])), refused 4)  -- pad count above the five bytes
     ∷ (header 0xA0 ++ (good ++ (5 ∷ [])), refused 7)  -- pad count of all five: no payload
     ∷ (header 0x80 ++ (5 ∷ 0 ∷ 0 ∷ []), refused 7)
-    ∷ (header 0x80 ++ (good ++ good), refused 7)
+    ∷ (header 0x80 ++ (good ++ good), refused 17)
+    ∷ (header 0x80 ++ ((16 ∷ 0 ∷ 0 ∷ 0 ∷ []) ++ good), refused 17)  -- 17 before 8
+    ∷ (header 0xA0 ++ (good ++ (good ++ (9 ∷ 9 ∷ 9 ∷ 4 ∷ []))), refused 17)  -- eight bytes before four of padding
+    ∷ (header 0xA0 ++ (good ++ (9 ∷ 9 ∷ 9 ∷ 4 ∷ [])), answered report)  -- four before four
+    ∷ (header 0xA0 ++ (good ++ (9 ∷ 9 ∷ 9 ∷ 9 ∷ [])), refused 4)  -- 4 before 17
+    ∷ (header 0x92 ++ (replicate 8 9 ++ ((0 ∷ 0 ∷ 0 ∷ 1 ∷ 9 ∷ 9 ∷ 9 ∷ 9 ∷ []) ++ (good ++ good))), refused 17)
     ∷ (header 0x80 ++ (16 ∷ 0 ∷ 0 ∷ []), refused 7)  -- 7 before 8
     ∷ (header 0x80 ++ (16 ∷ 0 ∷ 0 ∷ 0 ∷ []), refused 8)  -- 8 before 9
     ∷ (header 0x80 ++ (15 ∷ 0 ∷ 0 ∷ 0 ∷ []), refused 9)
@@ -80,6 +85,16 @@ packets =
 pub packets-read : map (λ row. read (row .0)) packets ≡ map (λ row. row .1) packets
 unfolding read headerRefusal afterHeader payload payloadRefusal
 packets-read = refl
+
+-- payloads of 0 to 16 bytes
+abbrev lengths : List (ℕ × ℕ)
+lengths =
+    (0, 7) ∷ (1, 7) ∷ (2, 7) ∷ (3, 7) ∷ (4, 0) ∷ (5, 7) ∷ (6, 7) ∷ (7, 7) ∷ (8, 17) ∷ (9, 7) ∷ (10, 7) ∷ (11, 7) ∷ (12, 17) ∷ (13, 7) ∷ (14, 7) ∷ (15, 7)
+    ∷ (16, 17) ∷ []
+
+pub lengths-told : map (λ row. payloadRefusal (replicate (row .0) 1)) lengths ≡ map (λ row. row .1) lengths
+unfolding payloadRefusal
+lengths-told = refl
 
 -- THE RECEIVING CALL
 
@@ -108,6 +123,8 @@ calls =
     ∷ ((table, at (16 + 0x8000_0000)), 10)  -- offset 2^31
     ∷ ((opened 100 7 16 .table, header 0x80 ++ (5 ∷ 0 ∷ 0 ∷ [])), 5)  -- 5 before 6 and 7
     ∷ ((opened 101 8 16 .table, header 0x80 ++ (5 ∷ 0 ∷ 0 ∷ [])), 6)  -- 6 before 7
+    ∷ ((opened 101 8 16 .table, header 0x80 ++ (good ++ good)), 6)  -- 6 before 17
+    ∷ ((table, header 0x80 ++ (good ++ good)), 17)
     ∷ ((opened 100 7 16 .table, header 0xA0), 4)  -- 4 before 5
     ∷ ((emptyTable 128 7 16, []), 16)  -- 16 before 1
     ∷ []

@@ -117,7 +117,7 @@ pub struct Listed {
     pub events: usize,
 }
 
-// The numbers of document 01's table of refusals; specs/Refusals.antt has their conditions.
+// The numbers of the refusals; specs/Refusals.antt has their conditions.
 pub const TOO_SHORT: u8 = 1;
 
 pub const WRONG_VERSION: u8 = 2;
@@ -149,3 +149,5 @@ pub const OUTPUT_TOO_SMALL: u8 = 14;
 pub const LIST_TOO_SMALL: u8 = 15;
 
 pub const INVALID_TABLE: u8 = 16;
+
+pub const PACKED: u8 = 17;

@@ -22,7 +22,7 @@ use packet::header::timestamp;
 use table::refused;
 
 // Receives a packet into a table that passes the tests, and leaves one that passes them: its report is taken, or it is refused
-// with 1 to 11 and the table is as it was.
+// with 1 to 11 or 17, and the table is as it was.
 pub fn receive_valid(
     head: Head,
     keys: &mut [u64; 128],
@@ -54,7 +54,8 @@ pub fn receive_valid(
     table::take(head, keys, heard, key, told)
 }
 
-// Receives a packet: its report is taken into the table, or it is refused with 16 or 1 to 11 and the table is as it was.
+// Receives a packet: its report is taken into the table, or it is refused with 16, 1 to 11 or 17, and the table is as it
+// was.
 pub fn receive(head: Head, keys: &mut [u64; 128], heard: &mut [u32; 128], packet: &[u8]) -> Received
     ensures { λ r. ⌜ r ≡ receive (tableOf head (now (keys .entry)) (now (heard .entry))) (now (packet .entry)) .answer ⌝ }
     ensures { λ r. ⌜ tableOf (holding (r .count) head) (now (keys .exit)) (now (heard .exit))

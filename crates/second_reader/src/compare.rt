@@ -8,7 +8,7 @@ const PACKETS: u32 = 500000;
 
 // How many packets had each answer of packet::read, by its number (0: read), and on how many the readers differed.
 struct Tally {
-    answers: [u32; 10],
+    answers: [u32; 18],
     differed: u32,
 }
 
@@ -80,7 +80,7 @@ fn counted(mut t: Tally, s: &[u8]) -> Tally {
         t.differed = std::num::wrapping_add_u32(t.differed, 1);
     }
     let i = number_of(a) as usize;
-    if i < 10 {
+    if i < 18 {
         t.answers[i] = std::num::wrapping_add_u32(t.answers[i], 1);
     }
     t
@@ -104,7 +104,7 @@ fn counted_sample(t: Tally, n: u32) -> Tally {
 
 // All packets.
 fn compared() -> Tally {
-    let none = [0u32; 10];
+    let none = [0u32; 18];
     let mut t = Tally {
         answers: none,
         differed: 0,
@@ -127,7 +127,7 @@ fn line(name: &[u8], n: u32) {
 
 // The line of a refusal.
 fn refusal(t: Tally, number: usize) {
-    if 10 <= number {
+    if 18 <= number {
         return;
     }
     io::write_all(1, b"refusal ");
@@ -147,5 +147,6 @@ pub fn run() {
     refusal(t, 7);
     refusal(t, 8);
     refusal(t, 9);
+    refusal(t, 17);
     line(b"differed: ", t.differed);
 }

@@ -137,6 +137,17 @@ fn bad_padding(w: Walk) -> bool {
     w.rest < pad_count(w)
 }
 
+// The refusal of a payload that is not one report: 17 for several whole ones, else 7.
+fn misfit(size: u32) -> u8 {
+    if size == 0 {
+        return 7;
+    }
+    if size % 4 == 0 {
+        return 17;
+    }
+    7
+}
+
 // The refusal's number, or 0, when all bytes came.
 fn refusal(w: Walk) -> u8 {
     if w.part < CSRCS {
@@ -151,8 +162,9 @@ fn refusal(w: Walk) -> u8 {
     if bad_padding(w) {
         return 4;
     }
-    if std::num::wrapping_sub_u32(w.rest, pad_count(w)) != 4 {
-        return 7;
+    let size = std::num::wrapping_sub_u32(w.rest, pad_count(w));
+    if size != 4 {
+        return misfit(size);
     }
     if 15 < w.payload / 0x100_0000 {
         return 8;

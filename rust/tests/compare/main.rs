@@ -1,5 +1,5 @@
-//! The library compared with document 01, written again from its text alone (`paper`), on random
-//! inputs: each answer, table field, place, and lent byte and record, also under a refusal.
+//! The library compared with documents 01 and 02, written again from their text alone (`paper`), on
+//! random inputs: each answer, table field, place, and lent byte and record, also under a refusal.
 
 mod both;
 mod lists;

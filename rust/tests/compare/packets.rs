@@ -51,7 +51,7 @@ fn packets_are_read_as_on_paper() {
             assert_eq!(output, packet[..]);
         }
     }
-    tally.finish("read", &[1, 2, 3, 4, 7, 8, 9]);
+    tally.finish("read", &[1, 2, 3, 4, 7, 8, 9, 17]);
 }
 
 #[test]
@@ -72,7 +72,8 @@ fn reports_are_written_as_on_paper() {
     tally.finish("write", &[12, 14]);
 }
 
-/// The longest extension has 65,535 words: random packets do not get there.
+/// The longest extension has 65,535 words, and a payload may be longer than 16 bits say: random
+/// packets do not get there.
 #[test]
 fn long_packets_are_read_as_on_paper() {
     let mut packet = vec![0x90; 12];
@@ -83,4 +84,8 @@ fn long_packets_are_read_as_on_paper() {
     assert_eq!(read(&packet[..packet.len() - 1]), Err(7));
     assert_eq!(read(&packet[..packet.len() - 4]), Err(7));
     assert_eq!(read(&packet[..packet.len() - 5]), Err(3));
+    for (more, refusal) in [(4, 17), (65_532, 17), (1, 7)] {
+        packet.extend(vec![0; more]);
+        assert_eq!(read(&packet), Err(refusal));
+    }
 }

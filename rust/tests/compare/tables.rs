@@ -99,7 +99,7 @@ fn any_table_receives_as_on_paper() {
         tally.add(answer);
         known_when_full += usize::from(both.paper.count == 128 && answer == Ok(Taken::Known));
     }
-    tally.finish("receive", &[1, 2, 3, 4, 5, 6, 7, 8, 9, 10, 11, 16]);
+    tally.finish("receive", &[1, 2, 3, 4, 5, 6, 7, 8, 9, 10, 11, 16, 17]);
     println!("tables that fail one test of the seven alone: {failed_alone:?}");
     println!("known segments of full tables: {known_when_full}");
     assert!(!failed_alone.contains(&0) && known_when_full > 0);
@@ -126,7 +126,7 @@ fn a_table_receives_many_as_on_paper() {
             tally.add(receive(&mut both, &packet));
         }
     }
-    tally.finish("receive in turn", &[1, 2, 3, 4, 5, 6, 7, 8, 9, 10, 11]);
+    tally.finish("receive in turn", &[1, 2, 3, 4, 5, 6, 7, 8, 9, 10, 11, 17]);
 }
 
 /// The packets of an event that is sent to a table.

@@ -33,8 +33,10 @@ pub fn packet(random: &Random, report: &Report) -> Vec<u8> {
     let mut payload =
         vec![report.code as u8, u8::from(report.ended) << 7 | r_bit | report.volume as u8 & 63];
     payload.extend((report.duration as u16).to_be_bytes());
-    if random.one_in(12) {
-        payload.resize(random.index(13), 0);
+    if random.one_in(8) {
+        let packed = 4 * random.pick(&[2, 3, 1 + random.index(300)]);
+        let bytes = random.pick(&[random.index(13), packed - 1, packed, packed + 1]);
+        payload.resize_with(bytes, || random.u8());
     }
     packet.extend(payload);
     if pad > 0 {

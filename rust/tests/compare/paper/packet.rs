@@ -45,10 +45,11 @@ pub fn header(packet: &[u8]) -> Result<Header<'_>, u8> {
     })
 }
 
-/// Refusals 7 to 9.
+/// Refusals 7 to 9, and 17.
 pub fn report(header: &Header) -> Result<Report, u8> {
     let &[code, flags, d0, d1] = header.payload else {
-        return Err(7);
+        let bytes = header.payload.len();
+        return Err(if bytes >= 8 && bytes.is_multiple_of(4) { 17 } else { 7 });
     };
     if code > 15 {
         return Err(8);

@@ -8,7 +8,7 @@ abbrev Inv-loop : tie.InvT-loop
 Inv-loop i₀ i = Unit {0}
 
 abbrev μ-loop : tie.MeasureT-loop
-μ-loop i₀ i = 34 - i
+μ-loop i₀ i = 46 - i
 
 abbrev Inv-loop2 : tie.InvT-loop2
 Inv-loop2 j₀ j = Unit {0}
