@@ -79,8 +79,8 @@ typedef struct {
  *
  * Refused, in this order: 1 with fewer than 12 bytes; 2 if the version is not 2; 3 if the CSRC list or the extension runs past
  * the end; 4 if P is set and the pad count is 0 or above the bytes after header, CSRC list and extension; 17 if the payload has
- * 8, 12 or more bytes in whole fours, which are several reports; 7 if it is not 4 bytes otherwise; 8 if the code is above 15; 9
- * if the duration is 0. The report is then all zeros. */
+ * 8, 12 or more bytes in whole fours, which are several reports; 7 if it has any other length but 4; 8 if the code is above 15;
+ * 9 if the duration is 0. The report is then all zeros. */
 twimbor_read_result twimbor_read(const uint8_t *packet, size_t bytes);
 
 /* Writes the 16 bytes of a report's packet at the start of the output; the bytes after them stay. No CSRC list, extension or

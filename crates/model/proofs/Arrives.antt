@@ -121,7 +121,9 @@ module _ (t : Table) (es : List Sent) (sizes : Sizes t es) (fits : FitsTypes t e
       told q m = ⊎-elim (λ (e : q ≡ r). rw e k) (λ n. a .told q n) (List·Memᴰ·cases-cons m)
 
       few : length (put r (held u)) ≤ length (allSent segmentSize (planOf t) es)
-      few = fewer (put r (held u)) (allSent segmentSize (planOf t) es) (rises (put r (held u)) (d .rises)) (all-rising segmentSize (planOf t) (omega arith) (plans-for t) 0 es apart) (pairs-known d told)
+      few =
+          fewer (put r (held u)) (allSent segmentSize (planOf t) es) (rises (put r (held u)) (d .rises))
+          (all-rising segmentSize (planOf t) (omega arith) (plans-for t) 0 es apart) (pairs-known d told)
 
       long : length (held u) ≡ u .head .count
       long = held-length u
@@ -206,9 +208,11 @@ module _ (t : Table) (es : List Sent) (sizes : Sizes t es) (fits : FitsTypes t e
       packet : List ℕ
       packet = bytesOf t (sent e k)
 
-      after : Outcome hs (receive u packet .table) → arrivals u (packet ∷ packets t hs) ≡ packet ∷ arrivals (receive u packet .table) (packets t hs) → Outcome (sent e k ∷ hs) u
+      after : Outcome hs (receive u packet .table)
+          → arrivals u (packet ∷ packets t hs) ≡ packet ∷ arrivals (receive u packet .table) (packets t hs) → Outcome (sent e k ∷ hs) u
       after ih q = record {
-        all = λ h m. rw q (⊎-elim (λ (x : h ≡ sent e k). rw x (w .0 .0, w .0 .1, w .0 .2, List·Memᴰ·head refl)) (λ n. arrived-more packet _ h (ih .all h n)) (List·Memᴰ·cases-cons m));
+        all = λ h m. rw q (⊎-elim (λ (x : h ≡ sent e k). rw x (w .0 .0, w .0 .1, w .0 .2, List·Memᴰ·head refl))
+            (λ n. arrived-more packet _ h (ih .all h n)) (List·Memᴰ·cases-cons m));
         only = λ p m. ⊎-elim (λ x. (e, k, w .0 .0, w .0 .1, w .0 .2, x)) (λ n. ih .only p n) (List·Memᴰ·cases-cons (rw q at m));
       }
   outcome (stranger b ∷ hs) rs u a w =

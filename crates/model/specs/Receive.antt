@@ -1,5 +1,5 @@
 -- The receiving call (01, "The receiving table"). A report is looked at only when the packet was read as far as its
--- payload (none of 1 to 4); then come 5 and 6, then 7 to 11.
+-- payload (none of 1 to 4); then come 5 and 6, then 17 or 7, and 8 to 11.
 use Prim.Native.Nat.{ℕ, _+_, _-_, _%_}
 use mathlib.Core.Bool.{Bool, false, not, cond}
 use mathlib.Core.List.{List}

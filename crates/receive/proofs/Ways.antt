@@ -113,7 +113,7 @@ module _ (h : Head) (keys heard bs : List ℕ) (v : valid (tableOf h keys heard)
           abbrev saying-number : ℕ
           saying-number = sayingRefusal (h .origin) (timestamp bs) (payload bs)
 
-          -- 7 to 10 by what the payload says, then 11
+          -- the refusals by what the payload says, then 11
           by-saying : receiveRefusal t bs ≡ (saying-number orElse cond (noRoom t (heardIn t bs)) 11 0)
           unfolding receiveRefusal sayingRefusal heardIn
           by-saying =

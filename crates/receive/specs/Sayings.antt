@@ -1,4 +1,4 @@
--- What a payload says by itself: refusals 7 to 10, or a segment heard once. Every number is that of the model's definitions.
+-- What a payload says by itself: refusal 17 or 7, 8 to 10, or a segment heard once. Every number is that of the model's definitions.
 use Prim.Native.Nat.{ℕ}
 use mathlib.Core.Bool.{Bool, cond}
 use mathlib.Core.List.{List}

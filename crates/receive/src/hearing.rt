@@ -24,7 +24,7 @@ fn offset_of(origin: u32, timestamp: u32) -> u32
     timestamp + (0xffff_ffff - origin) + 1
 }
 
-// Hears a payload, or refuses it with 7 to 10.
+// Hears a payload, or refuses it with 17 or 7, or with 8 to 10.
 pub fn hear(origin: u32, timestamp: u32, marked: bool, payload: &[u8]) -> Hearing
     ensures { λ r. ⌜ r ≡ hearingOf origin timestamp marked (now (payload .entry)) ⌝ }
 {

@@ -16,7 +16,25 @@ use Rattle.session.proofs.Laws.{inside, no-line, line-within}
 use Rattle.session.specs.declared.Session.the-variants.{Given, Bad}
 use Rattle.session.specs.declared.Line.{Line}
 use Rattle.session.specs.declared.Line.the-variants.{Read, Wrong}
-use Rattle.session.specs.Session.{isDigit, digitsOf, followedBy, value, decimals, isDecimal, numberAt, startsWith, lineAt, typeName, sourceName, originName, after, sessionOf, Decimal, StartsWithLine, SessionText}
+use Rattle.session.specs.Session.{
+  isDigit,
+  digitsOf,
+  followedBy,
+  value,
+  decimals,
+  isDecimal,
+  numberAt,
+  startsWith,
+  lineAt,
+  typeName,
+  sourceName,
+  originName,
+  after,
+  sessionOf,
+  Decimal,
+  StartsWithLine,
+  SessionText,
+}
 
 -- DIGITS OF A NUMBER
 
@@ -212,7 +230,8 @@ module _ (bs : List ℕ) (at : ℕ) where
             more = length ds - 1;
             text = rw k (sym (digits-back (drop at bs) 0));
             fits = rw k (below-places (drop at bs));
-            fewest = λ s. leading (drop at bs) some (λ z. no-zero (getD bs at 0) (length ds) t (omega (arith, s)) ((let y : at ≡ at + 0 = omega arith in ap (λ (x : ℕ). getD bs x 0) y) ∙ at-front 0 ∙ z));
+            fewest = λ s. leading (drop at bs) some (λ z. no-zero (getD bs at 0) (length ds) t (omega (arith, s))
+                ((let y : at ≡ at + 0 = omega arith in ap (λ (x : ℕ). getD bs x 0) y) ∙ at-front 0 ∙ z));
           }
 
       go : (b : Bool) → eqb (getD bs end 0) 10 ≡ b → (c : Bool) → leb (value ds) 4294967295 ≡ c → (d : Bool) → isDecimal (getD bs at 0) (length ds) ≡ d

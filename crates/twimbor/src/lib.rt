@@ -152,7 +152,7 @@ pub extern "C" fn twimbor_is_valid_columns<'a>(
     valid::is_valid(head, keys, heard)
 }
 
-// Receives a packet: its report is taken into the table, or it is refused with 16 or 1 to 11 and the table is as it was. The
+// Receives a packet: its report is taken into the table, or it is refused with 16, 1 to 11 or 17, and the table is as it was. The
 // answer's count is the table's from then on.
 #[no_mangle]
 pub extern "C" fn twimbor_receive_columns(
