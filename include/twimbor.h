@@ -8,7 +8,7 @@
  * points to may not be written by anything else during the call, and what the call writes may not overlap anything else that is
  * lent to it. No pointer may be null, not even with 0 bytes or records.
  *
- * A `length`, `duration` or `period` is always in timestamp units. */
+ * A `length`, `duration`, `period` or `segment_size` is always in timestamp units. */
 #ifndef TWIMBOR_H
 #define TWIMBOR_H
 
@@ -61,8 +61,9 @@ typedef struct {
     uint32_t start;                 /* the first timestamp */
     uint32_t code;                  /* 0 to 15 */
     uint32_t volume;                /* 0 to 63 */
-    uint32_t length;                /* 1 to 1048560 timestamp units */
+    uint32_t length;                /* 1 timestamp unit to 16 segment sizes */
     uint32_t period;                /* 1 to 65535 timestamp units between reports */
+    uint32_t segment_size;          /* 1 to 65535 timestamp units; below 65535 for redundant packets (RFC 4733, 2.5.1.3.1) */
 } twimbor_plan;
 
 typedef struct {
@@ -90,11 +91,11 @@ twimbor_read_result twimbor_read(const uint8_t *packet, size_t bytes);
  * duration 0 or above 65535; 14 if the output has fewer than 16 bytes. All of the output then stays. */
 uint8_t twimbor_write(twimbor_report report, uint8_t *output, size_t bytes);
 
-/* How many reports a plan has. An event is cut into segments of 65535 units; a segment of L units is reported at each multiple of
- * the period below L, and at L three times.
+/* How many reports a plan has. An event is cut into segments of the segment size, the last holding the rest; a segment of L units
+ * is reported at each multiple of the period below L, and at L three times.
  *
- * Refused: 12 if the payload type is above 127, the code above 15, the volume above 63, the length 0 or above 1048560, or the
- * period 0 or above 65535. The number of reports is then 0. */
+ * Refused: 12 if the payload type is above 127, the code above 15, the volume above 63, the segment size 0 or above 65535, the
+ * length 0 or above 16 segment sizes, or the period 0 or above 65535. The number of reports is then 0. */
 twimbor_count_result twimbor_report_count(twimbor_plan plan);
 
 /* Writes the 16 bytes of report k of a plan, counted from 1, at the start of the output; the bytes after them stay. The first
@@ -208,8 +209,8 @@ static inline twimbor_received twimbor_receive(twimbor_table *table, const uint8
     return received;
 }
 
-/* The event at number k, counted from 1 by start, then code. A key held for longer than 65535 units is one event of several
- * segments.
+/* The event at number k, counted from 1 by start, then code. A key held for longer than its sender's segments is one event of
+ * several segments: one with no M continues the nearest earlier one of its code if that one has no E and ends where it starts.
  *
  * Refused, in this order: 16 if the table fails its tests; 13 if k is 0 or above the number of events. The event is then all
  * zeros. */

@@ -44,6 +44,7 @@ static bool same_table(const twimbor_table *a, const twimbor_table *b)
 /* Row P7 of document 01: its plan, its first report, the bytes of its three, and what they say to a table. */
 static const twimbor_plan P7 = {
     .payload_type = 101, .ssrc = 0x11223344, .sequence = 65535, .start = 0xFFFFFFF0, .code = 5, .volume = 10, .length = 400, .period = 400,
+    .segment_size = 65535,
 };
 static const twimbor_report FIRST = {
     .marker = true, .payload_type = 101, .sequence = 65535, .timestamp = 0xFFFFFFF0, .ssrc = 0x11223344, .code = 5, .ended = false,
@@ -117,6 +118,15 @@ static void packets(void)
     EXPECT(twimbor_write(wide, output, sizeof output) == TWIMBOR_OUT_OF_RANGE && has(NULL));
 }
 
+/* Segment sizes and lengths on both sides of each edge. In 16 bits the last two sizes look like 1, and in 32 bits 16 times the last
+ * one like 16. */
+static const struct {
+    uint32_t segment_size, length, reports;
+} sizes[] = {
+    {0, 1, 0}, {1, 0, 0}, {1, 1, 3}, {1, 16, 48}, {1, 17, 0}, {400, 400, 3}, {400, 401, 6}, {400, 6400, 48}, {400, 6401, 0},
+    {65535, 1048560, 16 * 166}, {65535, 1048561, 0}, {65536, 1, 0}, {UINT32_MAX, 1, 0}, {0x10001, 1, 0}, {0x10000001, 1, 0},
+};
+
 static void plans(void)
 {
     twimbor_count_result count = twimbor_report_count(P7);
@@ -135,6 +145,17 @@ static void plans(void)
     count = twimbor_report_count(wide);
     EXPECT(count.refusal == TWIMBOR_OUT_OF_RANGE && count.reports == 0);
     EXPECT(twimbor_write_report(wide, 1, output, 16) == TWIMBOR_OUT_OF_RANGE && has(NULL));
+
+    for (size_t i = 0; i < sizeof sizes / sizeof *sizes; i++) {
+        twimbor_plan plan = P7;
+        plan.segment_size = sizes[i].segment_size;
+        plan.length = sizes[i].length;
+        uint8_t refusal = sizes[i].reports == 0 ? TWIMBOR_OUT_OF_RANGE : 0;
+        count = twimbor_report_count(plan);
+        EXPECT(count.refusal == refusal && count.reports == sizes[i].reports);
+        fresh();
+        EXPECT(twimbor_write_report(plan, 1, output, 16) == refusal && (refusal == 0 || has(NULL)));
+    }
 }
 
 static void opening(void)
@@ -236,6 +257,30 @@ static void listing(void)
     EXPECT(same_table(table, &before) && around_stays());
 }
 
+/* A key held for four short segments and a rest, with timestamps that pass 2^32: one event. */
+static void short_segments(void)
+{
+    static const twimbor_event want = {.code = 5, .start = 0, .length = 70, .volume = 10, .began = true, .ended = true};
+    twimbor_plan plan = P7;
+    plan.length = 70;
+    plan.period = 4;
+    plan.segment_size = 15;
+    twimbor_table *table = opened();
+    uint32_t reports = twimbor_report_count(plan).reports;
+    EXPECT(reports == 4 * 6 + 5);
+    for (uint32_t k = 1; k <= reports; k++) {
+        EXPECT(twimbor_write_report(plan, k, output, 16) == 0);
+        twimbor_read_result r = twimbor_read(output, 16);
+        uint32_t segment = (k - 1) / 6;
+        EXPECT(r.refusal == 0 && r.report.timestamp == plan.start + 15 * segment && r.report.ended == (k > reports - 2));
+        EXPECT(twimbor_receive(table, output, 16).refusal == 0 && table->head.count == segment + 1);
+    }
+    twimbor_event list[1];
+    twimbor_listed l = twimbor_list(table, list, 1);
+    EXPECT(l.refusal == 0 && l.events == 1 && same_event(list[0], want));
+    EXPECT(same_event(twimbor_event_at(table, 1).event, want) && around_stays());
+}
+
 /* A table that fails the tests, also by a count that reaches past its columns: every call says so, and nothing changes. */
 static void failing(void)
 {
@@ -296,6 +341,7 @@ int main(void)
     opening();
     receiving();
     listing();
+    short_segments();
     failing();
     segments();
     printf("the boundary from C: as expected\n");

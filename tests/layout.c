@@ -16,7 +16,7 @@ AT(twimbor_report, ended, 24, 1);
 AT(twimbor_report, volume, 28, 4);
 AT(twimbor_report, duration, 32, 4);
 
-SIZE(twimbor_plan, 32);
+SIZE(twimbor_plan, 36);
 AT(twimbor_plan, payload_type, 0, 4);
 AT(twimbor_plan, ssrc, 4, 4);
 AT(twimbor_plan, sequence, 8, 2);
@@ -25,6 +25,7 @@ AT(twimbor_plan, code, 16, 4);
 AT(twimbor_plan, volume, 20, 4);
 AT(twimbor_plan, length, 24, 4);
 AT(twimbor_plan, period, 28, 4);
+AT(twimbor_plan, segment_size, 32, 4);
 
 SIZE(twimbor_read_result, 40);
 AT(twimbor_read_result, report, 0, 36);

@@ -3,6 +3,8 @@
 
 twimbor_read_result plain_read(const uint8_t *p, size_t n);
 uint8_t plain_misfit(size_t length);    /* the refusal of a payload that is not 4 bytes; inlined, it slows plain_receive down */
+twimbor_count_result plain_report_count(twimbor_plan plan);
+uint8_t plain_write_report(twimbor_plan plan, uint32_t k, uint8_t *output, size_t bytes);
 bool plain_is_valid(const twimbor_table *t);
 
 typedef struct {

@@ -115,10 +115,12 @@ plain_answer plain_receive(twimbor_table *t, const uint8_t *p, size_t n)
     return receive_valid(t, p, n);
 }
 
-/* Does the segment at place j, with no M, continue the one at place i? Offsets stand from bit 8 on. */
+/* Does the segment at place j, with no M, continue the one at place i, of the same code? Offsets stand from bit 8 on, so the keys
+ * differ by the distance of the offsets alone. */
 INLINE bool follows(const twimbor_table *t, size_t i, size_t j)
 {
-    return !(t->heard[i] & E) && duration(t->heard[i]) == 65535 && (t->keys[i] >> 8) + 65535 == t->keys[j] >> 8;
+    uint32_t h = t->heard[i];
+    return !(h & E) && t->keys[j] - t->keys[i] == (uint64_t)duration(h) << 8;
 }
 
 /* Does the segment at place i, with no M, continue the nearest earlier one of its code? */

@@ -9,6 +9,7 @@ int main(void)
 {
     twimbor_plan plan = {
         .payload_type = 101, .ssrc = 287454020, .sequence = 1, .start = 1000, .code = 4, .volume = 10, .length = 70000, .period = 2400,
+        .segment_size = 65535,
     };
     twimbor_table table;
     if (twimbor_open(&table, plan.payload_type, plan.ssrc, plan.start) != 0) return 1;

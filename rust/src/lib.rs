@@ -19,6 +19,7 @@
 //!     volume: 10,
 //!     length: 800,
 //!     period: 400,
+//!     segment_size: 65_535,
 //! };
 //! let mut table = Table::open(payload_type, ssrc, origin)?;
 //! for packet in key.packets()? {

@@ -5,8 +5,8 @@ use crate::sys;
 
 /// What a sender plans for one event.
 ///
-/// The event is cut into segments of 65,535 units. Each segment is reported once every period, and
-/// three times at its end.
+/// The event is cut into segments of one size, the last holding the rest. Each segment is reported
+/// once every period, and three times at its end.
 #[repr(C)]
 #[derive(Clone, Copy, Debug, Default, PartialEq, Eq, Hash)]
 pub struct Plan {
@@ -22,10 +22,12 @@ pub struct Plan {
     pub code: u32,
     /// 0 to 63; a larger number is less loud.
     pub volume: u32,
-    /// 1 to 1,048,560 timestamp units.
+    /// 1 timestamp unit to 16 segment sizes.
     pub length: u32,
     /// 1 to 65,535 timestamp units between reports.
     pub period: u32,
+    /// 1 to 65,535 timestamp units; below 65,535 for redundant packets (RFC 4733, 2.5.1.3.1).
+    pub segment_size: u32,
 }
 
 impl Plan {
@@ -46,7 +48,7 @@ impl Plan {
     /// ```
     /// use twimbor::{Plan, Refusal, Report};
     ///
-    /// let plan = Plan { length: 401, period: 400, ..Plan::default() };
+    /// let plan = Plan { length: 401, period: 400, segment_size: 65535, ..Plan::default() };
     /// assert_eq!(plan.packets()?.len(), 4);
     /// let reports: Vec<_> = plan.packets()?.flat_map(|packet| Report::read(&packet)).collect();
     /// assert_eq!(reports.iter().map(|r| r.duration).collect::<Vec<_>>(), [400, 401, 401, 401]);

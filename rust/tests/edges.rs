@@ -1,5 +1,5 @@
-//! The rows of document 01, "Both sides of each edge", those of packed packets, and the words of the
-//! refusals.
+//! The rows of document 01, "Both sides of each edge", those of packed packets and of segments of
+//! any size, and the words of the refusals.
 
 use std::collections::HashSet;
 use twimbor::{Event, Plan, Refusal, Report, Segment, Table, Taken};
@@ -13,6 +13,7 @@ const P7: Plan = Plan {
     volume: 10,
     length: 400,
     period: 400,
+    segment_size: 65_535,
 };
 
 /// The events of a table that holds these two segments.
@@ -63,6 +64,88 @@ fn p9_to_p12_list_one_event_or_two() {
     let marked = Segment { marked: true, ..second };
     let begun = Event { began: true, ..two };
     assert_eq!(events(first, marked), [Event { ended: false, ..one }, begun]);
+}
+
+#[test]
+fn segments_are_continued_at_any_duration() {
+    for duration in [1, 2, 400, 15_983, 65_534, 65_535] {
+        let zeros = Segment { code: 5, ..Segment::default() };
+        let first = Segment { offset: 1_000, duration, marked: true, ..zeros };
+        let end = first.offset + u32::from(duration);
+        let second = Segment { offset: end, duration: 7, ended: true, ..zeros };
+        let began = Event { code: 5, start: 1_000, began: true, ..Event::default() };
+        let one = Event { length: end - 1_000, ..began };
+        let two = Event { start: end, length: 7, began: false, ended: true, ..one };
+        let joined = Event { length: one.length + 7, ended: true, ..one };
+        assert_eq!(events(first, second), [joined]);
+
+        let ended = Segment { ended: true, ..first };
+        assert_eq!(events(ended, second), [Event { ended: true, ..one }, two]);
+        let marked = Segment { marked: true, ..second };
+        assert_eq!(events(first, marked), [one, Event { began: true, ..two }]);
+        let other = Segment { code: 6, ..second };
+        assert_eq!(events(first, other), [one, Event { code: 6, ..two }]);
+        let later = Segment { offset: end + 1, ..second };
+        assert_eq!(events(first, later), [one, Event { start: end + 1, ..two }]);
+        if duration > 1 {
+            let earlier = Segment { offset: end - 1, ..second };
+            assert_eq!(events(first, earlier), [one, Event { start: end - 1, ..two }]);
+        }
+    }
+}
+
+#[test]
+fn segment_sizes_end_at_1_and_65535() {
+    for segment_size in [0, 1, 65_535, 65_536, u32::MAX] {
+        let plan = Plan { length: 1, segment_size, ..P7 };
+        let is_size = (1..=65_535).contains(&segment_size);
+        let (count, written) = (plan.report_count(), plan.write_report(1, &mut [0; 16]));
+        assert_eq!(count, if is_size { Ok(3) } else { Err(Refusal::OutOfRange) });
+        assert_eq!(written, if is_size { Ok(()) } else { Err(Refusal::OutOfRange) });
+    }
+}
+
+#[test]
+fn lengths_end_at_16_sizes() {
+    for segment_size in [1, 2, 399, 400, 15_983, 65_534, 65_535] {
+        let longest = Plan { length: 16 * segment_size, period: 65_535, segment_size, ..P7 };
+        assert_eq!(longest.report_count(), Ok(3 * 16));
+        assert_eq!(longest.write_report(3 * 16, &mut [0; 16]), Ok(()));
+        for length in [0, longest.length + 1] {
+            let outside = Plan { length, ..longest };
+            assert_eq!(outside.report_count(), Err(Refusal::OutOfRange));
+            assert_eq!(outside.write_report(1, &mut [0; 16]), Err(Refusal::OutOfRange));
+        }
+    }
+}
+
+/// A plan's reports, as start of the segment, counted from that of the event, duration and E.
+fn reports(plan: &Plan) -> Vec<(u32, u32, bool)> {
+    let reports = plan.packets().unwrap().map(|packet| Report::read(&packet).unwrap());
+    reports.map(|r| (r.timestamp.wrapping_sub(plan.start), r.duration, r.ended)).collect()
+}
+
+#[test]
+fn segments_of_one_unit_have_three_reports_each() {
+    for length in 1..=16 {
+        let plan = Plan { length, segment_size: 1, ..P7 };
+        let expected = (0..length).flat_map(|unit| {
+            let is_last = unit == length - 1;
+            [(unit, 1, false), (unit, 1, is_last), (unit, 1, is_last)]
+        });
+        assert!(reports(&plan).into_iter().eq(expected));
+    }
+}
+
+#[test]
+fn a_length_in_whole_sizes_leaves_no_empty_segment() {
+    let whole = Plan { length: 800, segment_size: 400, ..P7 };
+    let first = [(0, 400, false); 3];
+    let second = [(400, 400, false), (400, 400, true), (400, 400, true)];
+    assert_eq!(reports(&whole), [first, second].concat());
+    let longer = Plan { length: 801, ..whole };
+    let rest = [(800, 1, false), (800, 1, true), (800, 1, true)];
+    assert_eq!(reports(&longer), [first, [(400, 400, false); 3], rest].concat());
 }
 
 #[test]

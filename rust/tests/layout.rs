@@ -50,7 +50,7 @@ fn structs_and_numbers_are_the_headers() {
         marker, payload_type, sequence, timestamp, ssrc, code, ended, volume, duration
     });
     layout!(file, Plan as "twimbor_plan" {
-        payload_type, ssrc, sequence, start, code, volume, length, period
+        payload_type, ssrc, sequence, start, code, volume, length, period, segment_size
     });
     layout!(file, Head as "twimbor_head" { payload_type, ssrc, origin, count });
     layout!(file, Table as "twimbor_table" { head, keys, heard });

@@ -6,10 +6,10 @@ use model::Event;
 use model::EventAnswer;
 use model::Table;
 
-const LISTS: usize = 10;
+const LISTS: usize = 15;
 
 // Three segments (offset, code, duration, volume, E, M), of which those with a duration are held.
-const LIST: [u32; 180] = [
+const LIST: [u32; 270] = [
     0, 5, 65535, 10, 0, 1, 65535, 5, 1, 10, 1, 0, 0, 0, 0, 0, 0, 0,          // P9
     0, 5, 65535, 10, 1, 1, 65535, 5, 1, 10, 1, 0, 0, 0, 0, 0, 0, 0,          // P10
     0, 5, 65534, 10, 0, 1, 65535, 5, 1, 10, 1, 0, 0, 0, 0, 0, 0, 0,          // P11
@@ -18,12 +18,17 @@ const LIST: [u32; 180] = [
     0, 5, 65535, 10, 0, 1, 9, 5, 65535, 9, 0, 0, 65535, 5, 1, 7, 1, 0,       // overlapping: the nearest is the second
     0, 5, 65535, 10, 0, 0, 0, 6, 65535, 9, 0, 0, 65535, 6, 1, 7, 1, 0,       // two codes at one offset
     0, 5, 65535, 10, 0, 1, 65535, 5, 65535, 9, 0, 0, 131070, 5, 1, 11, 0, 0, // three segments, no E
-    0, 5, 1, 10, 0, 0, 1, 5, 1, 9, 1, 0, 2, 5, 1, 8, 1, 1,
+    0, 5, 1, 10, 0, 0, 1, 5, 1, 9, 1, 0, 2, 5, 1, 8, 1, 1,                   // segments of one unit
+    0, 5, 400, 10, 0, 1, 400, 5, 300, 9, 0, 0, 700, 5, 65535, 8, 1, 0,       // of any duration
+    0, 5, 400, 10, 0, 1, 401, 5, 300, 9, 0, 0, 701, 5, 1, 8, 1, 0,           // a gap of one unit
+    0, 5, 400, 10, 0, 1, 399, 5, 300, 9, 0, 0, 699, 5, 1, 8, 1, 0,           // one unit in both
+    0, 5, 400, 10, 1, 1, 400, 5, 300, 9, 0, 0, 700, 5, 1, 8, 1, 1,           // E, then M
+    0, 5, 400, 10, 0, 1, 400, 6, 300, 9, 0, 0, 700, 5, 1, 8, 1, 0,           // another key
     0, 0, 0, 0, 0, 0, 0, 0, 0, 0, 0, 0, 0, 0, 0, 0, 0, 0,                    // no segments
 ];
 
 fn list_cell(at: usize) -> u32 {
-    if 180 <= at {
+    if 270 <= at {
         return 0;
     }
     LIST[at]
@@ -31,14 +36,14 @@ fn list_cell(at: usize) -> u32 {
 
 // The two numbers of the segment at a place of the rows; zeros beyond them.
 fn key_at(at: usize) -> u64 {
-    if 178 < at {
+    if 268 < at {
         return 0;
     }
     key(list_cell(at), list_cell(at + 1))
 }
 
 fn heard_at(at: usize) -> u32 {
-    if 174 < at {
+    if 264 < at {
         return 0;
     }
     heard(

@@ -12,7 +12,6 @@ use lib.ListN.{length, getD}
 use Rattle.model.specs.declared.Segment.{Segment}
 use Rattle.model.specs.declared.Head.{Head}
 use Rattle.model.specs.declared.Event.{Event}
-use Rattle.model.specs.Limits.{isFull}
 use Rattle.model.specs.Table.{segmentAt, segmentsFrom, tableOf, valid}
 use Rattle.model.specs.Events.{units, loudest, lastEnded, eventOf, continues, continuesNearest, continuing, eventsFrom}
 use Rattle.model.proofs.Tables.{tests-passed, valid-from}
@@ -20,12 +19,8 @@ use Rattle.grouping.specs.Places.{InRanges, earlier, begins, later, leng
 
 -- ONE SEGMENT AND THE NEXT
 
-module _ (p s : Segment) (unmarked : s .marked ≡ false) (unended : p .ended ≡ false) where
-  pub short : (p .duration ≡ 65535 → ⊥) → false ≡ continues isFull p s
-  short h = rw (unmarked, unended, ne-eqb (p .duration) 65535 h)
-
-  pub whole : p .duration ≡ 65535 → eqb (p .offset + p .duration) (s .offset) ≡ continues isFull p s
-  whole h = rw (unmarked, unended, eq-eqb (p .duration) 65535 h)
+pub by-end : (p s : Segment) → s .marked ≡ false → p .ended ≡ false → eqb (p .offset + p .duration) (s .offset) ≡ continues p s
+by-end p s unmarked unended = rw (unmarked, unended)
 
 -- AN EVENT AND ONE SEGMENT MORE
 
@@ -73,7 +68,7 @@ cond-same true e f = e
 cond-same false e f = f
 
 -- a marked segment continues none
-marked-none : (l : List Segment) (s : Segment) → s .marked ≡ true → continuesNearest isFull l s ≡ false
+marked-none : (l : List Segment) (s : Segment) → s .marked ≡ true → continuesNearest l s ≡ false
 unfolding continuesNearest
 marked-none [] s h = refl
 marked-none (p ∷ ps) s h = cond-same (eqb (p .code) (s .code)) (rw h) (marked-none ps s h)
@@ -110,7 +105,7 @@ module _ (keys heard : List ℕ) where
   -- whether the segment at place i begins an event: those before place j decide, since none from there on has its code
   pub record Looking (i j : ℕ) : Type 0 where
     pub within : j ≤ i
-    pub same : not (continuesNearest isFull (earlier keys heard j) (segmentAt keys heard i)) ≡ begins keys heard i
+    pub same : not (continuesNearest (earlier keys heard j) (segmentAt keys heard i)) ≡ begins keys heard i
 
   module _ (i : ℕ) where
     pub look-marked : (s : Segment) → s ≡ segmentAt keys heard i → s .marked ≡ true → true ≡ begins keys heard i
@@ -127,12 +122,12 @@ module _ (keys heard : List ℕ) where
       look-ends h = let z : j ≡ 0 = omega arith in rw z at (w .same)
 
       module _ (some : 0 < j) where
-        back : not (continuesNearest isFull (segmentAt keys heard (j - 1) ∷ earlier keys heard (j - 1)) (segmentAt keys heard i))
+        back : not (continuesNearest (segmentAt keys heard (j - 1) ∷ earlier keys heard (j - 1)) (segmentAt keys heard i))
             ≡ begins keys heard i
         unfolding earlier
         back =
             let z : j ≡ suc (j - 1) = omega arith in
-            ap (λ (n : ℕ). not (continuesNearest isFull (earlier keys heard n) (segmentAt keys heard i))) (sym z) ∙ w .same
+            ap (λ (n : ℕ). not (continuesNearest (earlier keys heard n) (segmentAt keys heard i))) (sym z) ∙ w .same
 
         pub look-within : InRanges keys heard (i + 1) → InRanges keys heard (j - 1 + 1)
         look-within r = fewer (i + 1) (j - 1) r (omega (arith, w .within))
@@ -145,10 +140,10 @@ module _ (keys heard : List ℕ) where
         }
 
         pub look-met : getD keys (j - 1) 0 % 256 ≡ getD keys i 0 % 256 → (p s : Segment) → p ≡ segmentAt keys heard (j - 1)
-            → s ≡ segmentAt keys heard i → (r : Bool) → r ≡ continues isFull p s → not r ≡ begins keys heard i
+            → s ≡ segmentAt keys heard i → (r : Bool) → r ≡ continues p s → not r ≡ begins keys heard i
         unfolding continuesNearest
         look-met e p s f g r h =
-            ap not (h ∙ ap₂ (continues isFull) f g)
+            ap not (h ∙ ap₂ continues f g)
             ∙ (rw (eq-eqb (getD keys (j - 1) 0 % 256) (getD keys i 0 % 256) e) at back)
 
   -- ONE EVENT
@@ -158,7 +153,7 @@ module _ (keys heard : List ℕ) where
     pub reach : j ≤ n
     pub code : last .code ≡ getD keys i 0 % 256
     pub long : v .length ≤ j * 65535
-    pub event : grown v (continuing isFull last (rest n j)) ≡ eventFrom keys heard n i
+    pub event : grown v (continuing last (rest n j)) ≡ eventFrom keys heard n i
 
   module _ (n i : ℕ) where
     pub event-starts : i < n → (s : Segment) → s ≡ segmentAt keys heard i → (v : Event) → v ≡ eventOf s [] → v .length ≤ 65535
@@ -168,7 +163,7 @@ module _ (keys heard : List ℕ) where
       reach = omega arith;
       code = ap (λ (x : Segment). x .code) e;
       long = omega arith;
-      event = rw (f, e) (grown-alone (segmentAt keys heard i) (continuing isFull (segmentAt keys heard i) (later keys heard n i)));
+      event = rw (f, e) (grown-alone (segmentAt keys heard i) (continuing (segmentAt keys heard i) (later keys heard n i)));
     }
 
     module _ (j : ℕ) (v : Event) (last : Segment) (w : Growing n i j v last) where
@@ -177,7 +172,7 @@ module _ (keys heard : List ℕ) where
       event-ends h = rw (none-left n j h) at (w .event)
 
       module _ (less : j < n) where
-        here : grown v (continuing isFull last (segmentAt keys heard j ∷ later keys heard n j)) ≡ eventFrom keys heard n i
+        here : grown v (continuing last (segmentAt keys heard j ∷ later keys heard n j)) ≡ eventFrom keys heard n i
         here = rw (first n j less) at (w .event)
 
         pub event-passes : (v′ : Event) (last′ : Segment) → v′ ≡ v → last′ ≡ last → (getD keys j 0 % 256 ≡ getD keys i 0 % 256 → ⊥)
@@ -191,12 +186,12 @@ module _ (keys heard : List ℕ) where
         })
 
         module _ (e : getD keys j 0 % 256 ≡ getD keys i 0 % 256) (s : Segment) (at-j : s ≡ segmentAt keys heard j)
-            (r : Bool) (test : r ≡ continues isFull last s) where
+            (r : Bool) (test : r ≡ continues last s) where
           same : eqb (last .code) (getD keys j 0 % 256) ≡ true
           same = eq-eqb (last .code) (getD keys j 0 % 256) (w .code ∙ sym e)
 
-          tested : r ≡ continues isFull last (segmentAt keys heard j)
-          tested = test ∙ ap (continues isFull last) at-j
+          tested : r ≡ continues last (segmentAt keys heard j)
+          tested = test ∙ ap (continues last) at-j
 
           pub event-stops : not r ≡ true → v ≡ eventFrom keys heard n i
           unfolding continuing
@@ -216,7 +211,7 @@ module _ (keys heard : List ℕ) where
 
   -- those that begin at place i or later
   unfoldable pub eventsAfter : ℕ → ℕ → List Event
-  eventsAfter n i = eventsFrom isFull (earlier keys heard i) (rest n i)
+  eventsAfter n i = eventsFrom (earlier keys heard i) (rest n i)
 
   pub all-after : (n : ℕ) → eventsAfter n 0 ≡ eventsIn keys heard n
   unfolding earlier eventsAfter
@@ -231,7 +226,7 @@ module _ (keys heard : List ℕ) where
   unfolding earlier begins eventFrom eventsFrom eventsAfter
   by-test n i h =
       rw (add-one i, first n i h, add-one i)
-      (cond-not (continuesNearest isFull (earlier keys heard i) (segmentAt keys heard i)) _ _)
+      (cond-not (continuesNearest (earlier keys heard i) (segmentAt keys heard i)) _ _)
 
   module _ (n i : ℕ) (h : i < n) (b : Bool) (is : b ≡ begins keys heard i) where
     pub begun : b ≡ true → eventsAfter n i ≡ eventFrom keys heard n i ∷ eventsAfter n (i + 1)
@@ -270,8 +265,7 @@ module _ (keys heard : List ℕ) where
 
 pub ruleset grouping = (
   needs,
-  short,
-  whole,
+  by-end,
   one,
   more,
   fewer,

@@ -6,7 +6,6 @@ use mathlib.Core.Bool.{Bool, true, not}
 use mathlib.Core.List.{List, [], _∷_}
 use Rattle.model.specs.declared.Segment.{Segment}
 use Rattle.model.specs.declared.Event.{Event}
-use Rattle.model.specs.Limits.{isFull}
 use Rattle.model.specs.Table.{segmentAt, segmentsFrom, validSegment}
 use Rattle.model.specs.Events.{eventOf, continuesNearest, continuing, eventsOf}
 
@@ -34,7 +33,7 @@ module _ (keys heard : List ℕ) where
 
   -- the segment at place i begins an event if it continues no earlier one
   unfoldable pub begins : ℕ → Bool
-  begins i = not (continuesNearest isFull (earlier i) (segmentAt keys heard i))
+  begins i = not (continuesNearest (earlier i) (segmentAt keys heard i))
 
   -- of n places, the segments after place i
   abbrev pub later : ℕ → ℕ → List Segment
@@ -42,7 +41,7 @@ module _ (keys heard : List ℕ) where
 
   -- the event that the segment at place i begins, among those of n places
   unfoldable pub eventFrom : ℕ → ℕ → Event
-  eventFrom n i = eventOf (segmentAt keys heard i) (continuing isFull (segmentAt keys heard i) (later n i))
+  eventFrom n i = eventOf (segmentAt keys heard i) (continuing (segmentAt keys heard i) (later n i))
 
   -- the events of n places
   abbrev pub eventsIn : ℕ → List Event

@@ -2,7 +2,6 @@
 ghost use mathlib.Core.Path.{_≡_};
 ghost use Prim.Native.Nat.{_+_};
 ghost use lib.ListN.{length};
-ghost use Rattle.model.specs.Limits.{isFull};
 ghost use Rattle.model.specs.Table.{segmentAt};
 ghost use Rattle.model.specs.Events.{continues};
 ghost use Rattle.grouping.specs.Places.{InRanges, begins, eventsIn};
@@ -11,15 +10,12 @@ use segment::segment_of;
 
 // Whether a segment s continues p, the nearest earlier one of its code.
 pub fn continues(p: Segment, s: Segment) -> bool
-    ensures { λ r. ⌜ r ≡ continues isFull p s ⌝ }
+    ensures { λ r. ⌜ r ≡ continues p s ⌝ }
 {
     if s.marked {
         return false;
     }
     if p.ended {
-        return false;
-    }
-    if p.duration != 65535 {
         return false;
     }
     (p.offset as u64) + (p.duration as u64) == (s.offset as u64)

@@ -12,7 +12,6 @@ use borrow.Author.Tests.{eqb-true}
 use Rattle.model.specs.declared.Report.{Report}
 use Rattle.model.specs.declared.Segment.{Segment}
 use Rattle.model.specs.declared.Table.{Table}
-use Rattle.model.specs.Limits.{segmentSize}
 use Rattle.model.specs.Packet.{packetOf, ssrc}
 use Rattle.model.specs.Plan.{cut, reports, reportAt}
 use Rattle.model.specs.Segments.{Derived}
@@ -65,22 +64,22 @@ fewer (x ∷ a) (y ∷ b) g h f = go (List·Memᴰ·cases-cons (like .1)) (fewer
         above z (inl e) = rw e first
         above z (inr k) = ≺-trans first (g .0 z k)
 
-pub length-all : (t : Table) (es : List Sent) → length (allSent segmentSize (planOf t) es) ≡ segmentsInAll t es
+pub length-all : (t : Table) (es : List Sent) → length (allSent (planOf t) es) ≡ segmentsInAll t es
 unfolding allSent segmentsInAll
 length-all t [] = refl
 length-all t (e ∷ es) =
-    length-append (segmentsSent segmentSize (planOf t) e) (allSent segmentSize (planOf t) es)
-    ∙ (λ i. (sym (ap length (sent-later t e)) ∙ length-map (cut segmentSize (planOf t e)) _) i + length-all t es i)
+    length-append (segmentsSent (planOf t) e) (allSent (planOf t) es)
+    ∙ (λ i. (sym (ap length (sent-later t e)) ∙ length-map (cut (planOf t e)) _) i + length-all t es i)
 
 -- ALONG THE CALLS
 
 module _ (t : Table) (es : List Sent) (sizes : Sizes t es) (fits : FitsTypes t es []) where
   pub apart : ApartFrom 0 es
-  apart = apart-from es (sizes .apart) (λ e m. plan-ranges (planOf t e) (sizes .ranges e m) .some)
+  apart = apart-from es (sizes .apart) (λ e m. let r = plan-ranges (planOf t e) (sizes .ranges e m) in (r .some, r .wide))
 
   -- every report says something of a segment of the events
   abbrev pub ToldOf : Segment → Type 0
-  ToldOf r = (g : Segment) × Mem g (allSent segmentSize (planOf t) es) × Says g r
+  ToldOf r = (g : Segment) × Mem g (allSent (planOf t) es) × Says g r
 
   pub record Along (rs : List Segment) (u : Table) : Type 0 where
     pub reached : Reached t rs u
@@ -95,7 +94,7 @@ module _ (t : Table) (es : List Sent) (sizes : Sizes t es) (fits : FitsTypes t e
   pub told-sent : (e : Sent) (k : ℕ) → Mem e es → 1 ≤ k → k ≤ length (reports (planOf t e)) → ToldOf (said t e k)
   told-sent e k m low high =
       let q = said-says t e (sizes .ranges e m) k low high in
-      (q .0, in-all segmentSize (planOf t) es e (q .0) m (q .1), q .2)
+      (q .0, in-all (planOf t) es e (q .0) m (q .1), q .2)
 
   -- from the table's origin a packet is heard as it was said
   pub heard-sent : (e : Sent) (k : ℕ) → Mem e es → 1 ≤ k → k ≤ length (reports (planOf t e)) → heardIn t (bytesOf t (sent e k)) ≡ said t e k
@@ -105,7 +104,7 @@ module _ (t : Table) (es : List Sent) (sizes : Sizes t es) (fits : FitsTypes t e
 
   -- what would be held has its like among the segments of the events
   pairs-known : {rs l : List Segment} → Derived rs l → ((r : Segment) → Mem r rs → ToldOf r) → (x : Segment) → Mem x l
-      → (g : Segment) × Mem g (allSent segmentSize (planOf t) es) × Alike x g
+      → (g : Segment) × Mem g (allSent (planOf t) es) × Alike x g
   pairs-known d told x m =
       let h = d .attained x m .longest in
       let q = told (h .0) (h .1) in
@@ -120,10 +119,10 @@ module _ (t : Table) (es : List Sent) (sizes : Sizes t es) (fits : FitsTypes t e
       told : (q : Segment) → Mem q (r ∷ rs) → ToldOf q
       told q m = ⊎-elim (λ (e : q ≡ r). rw e k) (λ n. a .told q n) (List·Memᴰ·cases-cons m)
 
-      few : length (put r (held u)) ≤ length (allSent segmentSize (planOf t) es)
+      few : length (put r (held u)) ≤ length (allSent (planOf t) es)
       few =
-          fewer (put r (held u)) (allSent segmentSize (planOf t) es) (rises (put r (held u)) (d .rises))
-          (all-rising segmentSize (planOf t) (omega arith) (plans-for t) 0 es apart) (pairs-known d told)
+          fewer (put r (held u)) (allSent (planOf t) es) (rises (put r (held u)) (d .rises))
+          (all-rising (planOf t) (plans-for t) 0 es apart) (pairs-known d told)
 
       long : length (held u) ≡ u .head .count
       long = held-length u

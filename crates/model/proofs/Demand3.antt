@@ -12,7 +12,6 @@ use Rattle.model.specs.declared.Report.{Report}
 use Rattle.model.specs.declared.Segment.{Segment}
 use Rattle.model.specs.declared.Table.{Table}
 use Rattle.model.specs.declared.Opened.{Opened}
-use Rattle.model.specs.Limits.{segmentSize, isFull}
 use Rattle.model.specs.Refusals.{none, outOfRange}
 use Rattle.model.specs.Plan.{fullSegments, restUnits, cut, reports, reportAt, planInRange}
 use Rattle.model.specs.Segments.{rising, segmentsOf}
@@ -86,7 +85,7 @@ module _ (t : Table) (es : List Sent) (hs : List Handed) (d : Delivered t es hs)
       }
 
   -- WHAT WAS NEEDED IS WHAT EACH SEGMENT HAS TO HAVE
-  module _ (e : Sent) (m : Mem e es) (g : Segment) (i : Mem g (segmentsSent segmentSize (planOf t) e)) where
+  module _ (e : Sent) (m : Mem e es) (g : Segment) (i : Mem g (segmentsSent (planOf t) e)) where
     abbrev rs : List Segment
     rs = reportsTaken t (packets t hs)
 
@@ -97,8 +96,8 @@ module _ (t : Table) (es : List Sent) (hs : List Handed) (d : Delivered t es hs)
     marked h =
         let k = heard e 1 (d .needed e m .first) in
         let q = said-says t e range 1 (k .low) (k .high) in
-        let first = sayings-first segmentSize (planOf t e) noSegment .0 in
-        let same : q .0 ≡ g = one-first segmentSize (planOf t e) (fullSegments segmentSize (planOf t e)) (e .start) true (q .0) g (q .1) i (q .2 .marked first) h in
+        let first = sayings-first (planOf t e) noSegment .0 in
+        let same : q .0 ≡ g = one-first (planOf t e) (fullSegments (planOf t e)) (e .start) true (q .0) g (q .1) i (q .2 .marked first) h in
         (said t e 1, k .taken, rw same at (q .2), first)
 
     ended : g .ended ≡ true → (r : Segment) × Mem r rs × Says g r × (r .ended ≡ true)
@@ -107,7 +106,7 @@ module _ (t : Table) (es : List Sent) (hs : List Handed) (d : Delivered t es hs)
         let k = heard e (y .0) (y .1) in
         let q = said-says t e range (y .0) (k .low) (k .high) in
         let last : said t e (y .0) .ended ≡ true = sym (ap (λ (r : Report). r .ended) (report-is (planOf t e) (y .0) (k .low) (k .high))) ∙ y .2 in
-        let same : q .0 ≡ g = one-last segmentSize (planOf t e) (fullSegments segmentSize (planOf t e)) (e .start) true (q .0) g (q .1) i (q .2 .ended last .0) h in
+        let same : q .0 ≡ g = one-last (planOf t e) (fullSegments (planOf t e)) (e .start) true (q .0) g (q .1) i (q .2 .ended last .0) h in
         (said t e (y .0), k .taken, rw same at (q .2), last)
 
     -- a report with a segment's timestamp says something of that segment
@@ -115,15 +114,15 @@ module _ (t : Table) (es : List Sent) (hs : List Handed) (d : Delivered t es hs)
         → reportAt (planOf t e) k .timestamp ≡ (planOf t e .start + c .offset) % 0x1_0000_0000 → Says g (said t e k)
     timestamp-tells c moved k h stamp = rw same at (q .2)
       where
-        q : (x : Segment) × Mem x (segmentsSent segmentSize (planOf t) e) × Says x (said t e k)
+        q : (x : Segment) × Mem x (segmentsSent (planOf t) e) × Says x (said t e k)
         q = said-says t e range k (h .low) (h .high)
 
         at : (planOf t e .start + sayingAt (planOf t e) k .offset) % 0x1_0000_0000 ≡ (planOf t e .start + c .offset) % 0x1_0000_0000
         at = sym (ap (λ (x : Report). x .timestamp) (report-is (planOf t e) k (h .low) (h .high))) ∙ stamp
 
-        place : (x : Segment) → Mem x (segmentsSent segmentSize (planOf t) e)
-            → InCut (planOf t e) (e .start) (e .start + (fullSegments segmentSize (planOf t e) * segmentSize + restUnits segmentSize (planOf t e))) x
-        place = cut-place segmentSize (planOf t e) (omega arith) (fullSegments segmentSize (planOf t e)) (e .start) true
+        place : (x : Segment) → Mem x (segmentsSent (planOf t) e)
+            → InCut (planOf t e) (e .start) (e .start + (fullSegments (planOf t e) * e .«segment_size» + restUnits (planOf t e))) x
+        place = cut-place (planOf t e) (plan-ranges (planOf t e) range .wide) (fullSegments (planOf t e)) (e .start) true
 
         same-offset : said t e k .offset ≡ g .offset
         same-offset =
@@ -133,21 +132,21 @@ module _ (t : Table) (es : List Sent) (hs : List Handed) (d : Delivered t es hs)
               ap (λ (s : Segment). s .offset) moved,
               said-before t e range k (h .low) (h .high),
               place g i .to,
-              cut-units segmentSize (planOf t e) (plan-ranges (planOf t e) range .some),
+              cut-units (planOf t e) (plan-ranges (planOf t e) range .some),
               d .sizes .near e m,
             )
 
         same : q .0 ≡ g
         same =
-            rising-one (allSent segmentSize (planOf t) es)
-            (all-rising segmentSize (planOf t) (omega arith) (plans-for t) 0 es (apart t es (d .sizes) (d .fits))) (q .0) g
-            (in-all segmentSize (planOf t) es e (q .0) m (q .1)) (in-all segmentSize (planOf t) es e g m i)
+            rising-one (allSent (planOf t) es)
+            (all-rising (planOf t) (plans-for t) 0 es (apart t es (d .sizes) (d .fits))) (q .0) g
+            (in-all (planOf t) es e (q .0) m (q .1)) (in-all (planOf t) es e g m i)
             (record { offset = sym (q .2 .offset) ∙ same-offset; code = place (q .0) (q .1) .code ∙ sym (place g i .code) })
 
     full-report : (b : Bool) → g .ended ≡ b → (r : Segment) × Mem r rs × Says g r × (r .duration ≡ g .duration)
     full-report true h = let y = ended h in (y .0, y .1, y .2, y .2 .ended (y .3) .1)
     full-report false h =
-        let c = map-mem (later (e .start)) (cut segmentSize (planOf t e)) g (rw (sym (sent-later t e)) at i) in
+        let c = map-mem (later (e .start)) (cut (planOf t e)) g (rw (sym (sent-later t e)) at i) in
         let y = d .needed e m .full (c .0) (c .1) (sym (ap (λ (s : Segment). s .ended) (c .2)) ∙ h) in
         let k = heard e (y .0) (y .1) in
         let long : said t e (y .0) .duration ≡ g .duration =
@@ -159,13 +158,13 @@ module _ (t : Table) (es : List Sent) (hs : List Handed) (d : Delivered t es hs)
 
   -- THE TABLE AND THE LIST AFTER THE LAST CALL
 
-  pub held-after : held (tableAfter t (packets t hs)) ≡ allSent segmentSize (planOf t) es
+  pub held-after : held (tableAfter t (packets t hs)) ≡ allSent (planOf t) es
   held-after =
-      recovered segmentSize (omega arith) (planOf t) (plans-for t) es (apart t es (d .sizes) (d .fits)) (final .derived) told
-      (λ g i. let q = of-all segmentSize (planOf t) es g i in witness (q .0) (q .1) g (q .2))
+      recovered (planOf t) (plans-for t) es (apart t es (d .sizes) (d .fits)) (final .derived) told
+      (λ g i. let q = of-all (planOf t) es g i in witness (q .0) (q .1) g (q .2))
 
   pub events-after : eventsOf (held (tableAfter t (packets t hs))) ≡ map asListed es
-  events-after = ap eventsOf held-after ∙ events-of-all segmentSize (planOf t) (plans-for t) isFull refl 0 es (apart t es (d .sizes) (d .fits)) []
+  events-after = ap eventsOf held-after ∙ events-of-all (planOf t) (plans-for t) 0 es (apart t es (d .sizes) (d .fits)) []
 
 pub demand-3 : Demand-3
 demand-3 t es hs d = lists-events (tableAfter t (packets t hs)) (final t es hs d .passes) (map asListed es) (events-after t es hs d)

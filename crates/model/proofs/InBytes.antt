@@ -10,7 +10,6 @@ use lib.ListN.{length}
 use Rattle.model.specs.declared.Report.{Report}
 use Rattle.model.specs.declared.Segment.{Segment}
 use Rattle.model.specs.declared.Table.{Table}
-use Rattle.model.specs.Limits.{segmentSize}
 use Rattle.model.specs.Packet.{reportIn}
 use Rattle.model.specs.Plan.{fullSegments, reports, reportAt}
 use Rattle.model.specs.Receive.{heardIn, receive}
@@ -40,6 +39,7 @@ use Rattle.model.specs.Demands.{
 use Rattle.model.proofs.Cuts.{cut-place}
 use Rattle.model.proofs.Recovered.{ApartFrom}
 use Rattle.model.proofs.Sends.{
+  plan-ranges,
   report-is,
   marked-is-1,
   some-report,
@@ -99,7 +99,7 @@ module _ (t : Table) (es : List Sent) (sizes : Sizes t es) (fits : FitsTypes t e
     heard-within =
         let h = ap (λ (s : Segment). s .offset) (heard-sent t es sizes fits e k m low high) in
         let q = said-says t e (sizes .ranges e m) k low high in
-        let c = cut-place segmentSize (planOf t e) (omega arith) (fullSegments segmentSize (planOf t e)) (e .start) true (q .0) (q .1) in
+        let c = cut-place (planOf t e) (plan-ranges (planOf t e) (sizes .ranges e m) .wide) (fullSegments (planOf t e)) (e .start) true (q .0) (q .1) in
         (omega (arith, h, q .2 .offset, c .from), omega (arith, h, said-before t e (sizes .ranges e m) k low high))
 
   -- equal packets are of one event, and their reports are equal: timestamp, duration, E, M and all else

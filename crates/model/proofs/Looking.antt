@@ -1,6 +1,6 @@
 -- Looking through segments in order, as `eventsFrom` does: back it meets the nearest earlier one of the code, by offset, and
 -- forward all that continue a segment. So its tests answer what the types of specs/Events.antt say.
-use Prim.Native.Nat.{ℕ, _<_, _≤_}
+use Prim.Native.Nat.{_<_, _≤_}
 use mathlib.Core.Path.{_≡_, refl, sym, ap, subst, _∙_}
 use mathlib.Core.Bool.{Bool, true, false, cond, false≢true}
 use mathlib.Core.List.{List, [], _∷_, List·Memᴰ·head, List·Memᴰ·tail, List·Memᴰ·cases-cons, List·Memᴰ·not-nil, Memᴰ·cast}
@@ -31,7 +31,7 @@ earlier-of-code (lower o h) e = absurd (omega arith)
 earlier-other : {q s : Segment} → q .offset < s .offset → q ≡ s → ⊥
 earlier-other {q} {s} o e = let d : q .offset ≡ s .offset = ap (λ (x : Segment). x .offset) e in omega arith
 
-module _ (full : ℕ → Bool) (l : List Segment) (ordered : Rising l) where
+module _ (l : List Segment) (ordered : Rising l) where
   -- ONE BEFORE, ONE AFTER
 
   pub nearest-one : (p q s : Segment) → Nearest l p s → Nearest l q s → p ≡ q
@@ -40,42 +40,42 @@ module _ (full : ℕ → Bool) (l : List Segment) (ordered : Rising l) where
       let ge : q .offset ≤ p .offset = a .closest q (b .among) (b .code) (b .earlier) in
       rising-one l ordered p q (a .among) (b .among) (record { offset = omega arith; code = a .code ∙ sym (b .code) })
 
-  pub next-one : (p s t : Segment) → ContinuedBy full l p s → ContinuedBy full l p t → s ≡ t
+  pub next-one : (p s t : Segment) → ContinuedBy l p s → ContinuedBy l p t → s ≡ t
   next-one p s t a b =
       rising-one l ordered s t (a .among) (b .among)
       (record { offset = sym (a .meets) ∙ b .meets; code = sym (a .nearest .code) ∙ b .nearest .code })
 
-  pub chain-one : (ts us : List Segment) (s : Segment) → Chain full l s ts → Chain full l s us → ts ≡ us
+  pub chain-one : (ts us : List Segment) (s : Segment) → Chain l s ts → Chain l s us → ts ≡ us
   unfolding Chain
   chain-one [] [] s a b = refl
   chain-one [] (u ∷ us) s a b = absurd (a u (b .0))
   chain-one (t ∷ ts) [] s a b = absurd (b t (a .0))
   chain-one (t ∷ ts) (u ∷ us) s a b =
       let e : t ≡ u = next-one s t u (a .0) (b .0) in
-      let r : ts ≡ us = chain-one ts us u (subst (λ x. Chain full l x ts) e (a .1)) (b .1) in
+      let r : ts ≡ us = chain-one ts us u (subst (λ x. Chain l x ts) e (a .1)) (b .1) in
       λ i. e i ∷ r i
 
   -- THE TEST AND THE TYPE
 
-  test-if : (p s : Segment) → ContinuedBy full l p s → continues full p s ≡ true
-  test-if p s c = continues-if full p s (c .unmarked) (c .noEnd) (c .long) (c .meets)
+  test-if : (p s : Segment) → ContinuedBy l p s → continues p s ≡ true
+  test-if p s c = continues-if p s (c .unmarked) (c .noEnd) (c .meets)
 
-  test-then : (p s : Segment) → Mem s l → Nearest l p s → continues full p s ≡ true → ContinuedBy full l p s
+  test-then : (p s : Segment) → Mem s l → Nearest l p s → continues p s ≡ true → ContinuedBy l p s
   test-then p s m n e =
-      let k = continues-then full p s e in
-      record { among = m; unmarked = k .0; nearest = n; noEnd = k .1; long = k .2; meets = k .3 }
+      let k = continues-then p s e in
+      record { among = m; unmarked = k .0; nearest = n; noEnd = k .1; meets = k .2 }
 
   -- s continues one, or none
   abbrev pub Answers : Bool → Segment → Type 0
-  Answers true s = (p : Segment) × ContinuedBy full l p s
-  Answers false s = (p : Segment) → ContinuedBy full l p s → ⊥
+  Answers true s = (p : Segment) × ContinuedBy l p s
+  Answers false s = (p : Segment) → ContinuedBy l p s → ⊥
 
   -- BACK: ps are earlier segments, nearest first, with all of the code of s among them
   abbrev AllEarlier : Segment → List Segment → Type 0
   AllEarlier s ps = (q : Segment) → Mem q l → q .code ≡ s .code → q .offset < s .offset → Mem q ps
 
   looks-back : (s : Segment) → Mem s l → (ps : List Segment) → RisingBy (λ x y. y ≺ x) ps → ((q : Segment) → Mem q ps → Mem q l × (q ≺ s))
-      → AllEarlier s ps → Answers (continuesNearest full ps s) s
+      → AllEarlier s ps → Answers (continuesNearest ps s) s
   unfolding continuesNearest
   looks-back s m [] falls early all = λ p c. List·Memᴰ·not-nil (all p (c .nearest .among) (c .nearest .code) (c .nearest .earlier))
   looks-back s m (p ∷ ps) falls early all =
@@ -89,13 +89,13 @@ module _ (full : ℕ → Bool) (l : List Segment) (ordered : Rising l) where
         closest = λ q n c o. ⊎-elim (λ d. rw d (omega arith)) (λ k. not-later (falls .0 q k)) (List·Memᴰ·cases-cons (all q n c o));
       }
 
-      found : (b : Bool) → continues full p s ≡ b → Nearest l p s → Answers b s
+      found : (b : Bool) → continues p s ≡ b → Nearest l p s → Answers b s
       found true e n = (p, test-then p s m n e)
-      found false e n = λ q c. false≢true (sym e ∙ test-if p s (subst (λ x. ContinuedBy full l x s) (nearest-one q p s (c .nearest) n) c))
+      found false e n = λ q c. false≢true (sym e ∙ test-if p s (subst (λ x. ContinuedBy l x s) (nearest-one q p s (c .nearest) n) c))
 
-      go : (b : Bool) → eqb (p .code) (s .code) ≡ b → (AllEarlier s ps → Answers (continuesNearest full ps s) s)
-          → Answers (cond b (continues full p s) (continuesNearest full ps s)) s
-      go true e ih = found (continues full p s) refl (near (eqb-true _ _ e))
+      go : (b : Bool) → eqb (p .code) (s .code) ≡ b → (AllEarlier s ps → Answers (continuesNearest ps s) s)
+          → Answers (cond b (continues p s) (continuesNearest ps s)) s
+      go true e ih = found (continues p s) refl (near (eqb-true _ _ e))
       go false e ih = ih (λ q n c o. not-first (λ d. eqb-false _ _ e (sym (ap (λ (x : Segment). x .code) d) ∙ c)) (all q n c o))
 
   -- FORWARD: ts are later segments, in order, with all of the code of s among them
@@ -121,21 +121,21 @@ module _ (full : ℕ → Bool) (l : List Segment) (ordered : Rising l) where
             absurd (omega arith)
 
     -- what is later than t has t nearer than s
-    nearer : (u : Segment) → ContinuedBy full l s u → Mem u ts → ⊥
+    nearer : (u : Segment) → ContinuedBy l s u → Mem u ts → ⊥
     nearer u c k =
         let d : t .code ≡ u .code = sym e ∙ c .nearest .code in
         let f = c .nearest .closest t n d (earlier-of-code (rise .0 u k) d) in
         omega (arith, f, apart)
 
-    next : (b : Bool) → continues full s t ≡ b → Chain full l t (continuing full t ts) → Chain full l s (cond b (t ∷ continuing full t ts) [])
+    next : (b : Bool) → continues s t ≡ b → Chain l t (continuing t ts) → Chain l s (cond b (t ∷ continuing t ts) [])
     unfolding Chain
     next true f k = (test-then s t n near f, k)
     next false f k = λ u c.
-        ⊎-elim (λ d. false≢true (sym f ∙ test-if s t (subst (λ x. ContinuedBy full l s x) d c))) (nearer u c)
+        ⊎-elim (λ d. false≢true (sym f ∙ test-if s t (subst (λ x. ContinuedBy l s x) d c))) (nearer u c)
         (List·Memᴰ·cases-cons (all u (c .among) (sym (c .nearest .code)) (c .nearest .earlier)))
 
   looks-forward : (ts : List Segment) (s : Segment) → Mem s l → Rising ts → ((u : Segment) → Mem u ts → Mem u l × (s ≺ u))
-      → AllLater s ts → Chain full l s (continuing full s ts)
+      → AllLater s ts → Chain l s (continuing s ts)
   unfolding continuing Chain
   looks-forward [] s m rise late all = λ u c. List·Memᴰ·not-nil (all u (c .among) (sym (c .nearest .code)) (c .nearest .earlier))
   looks-forward (t ∷ ts) s m rise late all =
@@ -145,12 +145,12 @@ module _ (full : ℕ → Bool) (l : List Segment) (ordered : Rising l) where
       first : Mem t l × (s ≺ t)
       first = late t (List·Memᴰ·head refl)
 
-      go : (b : Bool) → eqb (s .code) (t .code) ≡ b → (AllLater t ts → Chain full l t (continuing full t ts))
-          → (AllLater s ts → Chain full l s (continuing full s ts))
-          → Chain full l s (cond b (cond (continues full s t) (t ∷ continuing full t ts) []) (continuing full s ts))
+      go : (b : Bool) → eqb (s .code) (t .code) ≡ b → (AllLater t ts → Chain l t (continuing t ts))
+          → (AllLater s ts → Chain l s (continuing s ts))
+          → Chain l s (cond b (cond (continues s t) (t ∷ continuing t ts) []) (continuing s ts))
       go true q ih jh =
           let e = eqb-true _ _ q in
-          next s t ts m (first .0) (first .1) rise all e (continues full s t) refl (ih (later s t ts m (first .0) (first .1) rise all e))
+          next s t ts m (first .0) (first .1) rise all e (continues s t) refl (ih (later s t ts m (first .0) (first .1) rise all e))
       go false q ih jh = jh (λ u n c o. not-first (λ d. eqb-false _ _ q (sym c ∙ ap (λ (x : Segment). x .code) d)) (all u n c o))
 
   -- ALONG THE LIST
@@ -204,8 +204,8 @@ module _ (full : ℕ → Bool) (l : List Segment) (ordered : Rising l) where
         go (inl n) = let h = not-later (k .apart u s n (List·Memᴰ·head refl)) in absurd (omega arith)
         go (inr n) = not-first (λ e. earlier-other o (sym e)) n
 
-    pub told : Answers (continuesNearest full past s) s
+    pub told : Answers (continuesNearest past s) s
     told = looks-back s in-list past (k .falls) (λ q m. (k .past-in q m, k .apart q s m (List·Memᴰ·head refl))) (λ q m c o. earlier-past q m o)
 
-    pub chained : Chain full l s (continuing full s rest)
+    pub chained : Chain l s (continuing s rest)
     chained = looks-forward rest s in-list (k .climbs .1) (λ u m. (k .rest-in u (List·Memᴰ·tail m), k .climbs .0 u m)) (λ u m c o. later-rest u m o)

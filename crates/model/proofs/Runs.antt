@@ -25,7 +25,6 @@ use borrow.Author.Tests.{le-ltb, ne-eqb}
 use Rattle.model.specs.declared.Segment.{Segment}
 use Rattle.model.specs.declared.Event.{Event}
 use Rattle.model.specs.declared.Table.{Table}
-use Rattle.model.specs.Limits.{isFull}
 use Rattle.model.specs.Segments.{Within, Derived}
 use Rattle.model.specs.Table.{segmentsFrom, valid, held, validSegment, taking}
 use Rattle.model.specs.Receive.{heardIn, receive, refuses}
@@ -170,7 +169,7 @@ demand-2 t ps e f =
       segments = q;
       derived = k .derived;
       lists = lists-events (tableAfter t ps) (k .passes) _ (ap eventsOf q);
-      grouped = subst (λ l. Grouped isFull (held (tableAfter t ps)) (eventsOf l)) q (eventsOf-grouped (held (tableAfter t ps)) (k .derived .rises));
+      grouped = subst (λ l. Grouped (held (tableAfter t ps)) (eventsOf l)) q (eventsOf-grouped (held (tableAfter t ps)) (k .derived .rises));
     }
 
 pub demand-2-any-order : Demand-2-any-order

@@ -12,10 +12,10 @@ use Rattle.model.specs.declared.Report.{Report}
 use Rattle.model.specs.declared.Plan.{Plan}
 use Rattle.model.specs.declared.Segment.{Segment}
 use Rattle.model.specs.declared.Table.{Table}
-use Rattle.model.specs.Limits.{segmentSize, isCode}
+use Rattle.model.specs.Limits.{isCode}
 use Rattle.model.specs.Refusals.{noReport}
 use Rattle.model.specs.Packet.{reportIn, packetOf, reportInRange, ssrc}
-use Rattle.model.specs.Plan.{fullSegments, cutFrom, cut, sayings, onWire, reports, reportAt, planInRange, writeReport}
+use Rattle.model.specs.Plan.{fullSegments, cutFrom, cut, sayings, onWire, reports, reportAt, longest, planInRange, writeReport}
 use Rattle.model.specs.Receive.{offset, heardFrom, heardIn}
 use Rattle.model.specs.Sizes.{Sent, end, planOf, ReportFits}
 use Rattle.model.specs.Demands.{sent, bytesOf}
@@ -30,8 +30,10 @@ pub record PlanRanges (p : Plan) : Type 0 where
   pub type : leb (p .«payload_type») 127 ≡ true
   pub code : isCode (p .code) ≡ true
   pub volume : p .volume ≤ 63
+  pub wide : 1 ≤ p .«segment_size»
+  pub narrow : p .«segment_size» ≤ 65535
   pub some : 1 ≤ p .length
-  pub most : p .length ≤ 1048560
+  pub most : p .length ≤ longest p
   pub often : 1 ≤ p .period
 
 pub plan-ranges : (p : Plan) → planInRange p ≡ true → PlanRanges p
@@ -40,51 +42,55 @@ plan-ranges p v =
     let b = and-then _ _ (a .1) in
     let c = and-then _ _ (b .1) in
     let d = and-then _ _ (c .1) in
-    let e = and-then _ _ (d .0) in
+    let size = and-then _ _ (d .0) in
+    let e = and-then _ _ (d .1) in
+    let length = and-then _ _ (e .0) in
     record {
       type = a .0;
       code = b .0;
       volume = leb-true _ _ (c .0);
-      some = leb-true _ _ (e .0);
-      most = leb-true _ _ (e .1);
-      often = leb-true _ _ (and-then _ _ (d .1) .0);
+      wide = leb-true _ _ (size .0);
+      narrow = leb-true _ _ (size .1);
+      some = leb-true _ _ (length .0);
+      most = leb-true _ _ (length .1);
+      often = leb-true _ _ (and-then _ _ (e .1) .0);
     }
 
 -- REPORT K OF A PLAN
 
 -- what report k says, its offset counted from the event's start
 abbrev pub sayingAt : Plan → ℕ → Segment
-sayingAt p k = getD (sayings segmentSize p) (k - 1) noSegment
+sayingAt p k = getD (sayings p) (k - 1) noSegment
 
 module _ (p : Plan) (k : ℕ) (low : 1 ≤ k) (high : k ≤ length (reports p)) where
-  within : k - 1 < length (sayings segmentSize p)
+  within : k - 1 < length (sayings p)
   unfolding reports
-  within = omega (arith, length-wire p 0 (sayings segmentSize p))
+  within = omega (arith, length-wire p 0 (sayings p))
 
   pub report-is : reportAt p k ≡ onWire p (k - 1) (sayingAt p k)
   unfolding reportAt reports
   report-is =
       let z : 0 + (k - 1) ≡ k - 1 = omega arith in
-      wire-at p 0 (k - 1) (sayings segmentSize p) noReport noSegment within ∙ ap (λ (j : ℕ). onWire p j (sayingAt p k)) z
+      wire-at p 0 (k - 1) (sayings p) noReport noSegment within ∙ ap (λ (j : ℕ). onWire p j (sayingAt p k)) z
 
   -- only report 1 carries M
   pub marked-is-1 : reportAt p k .marker ≡ true → k ≡ 1
-  marked-is-1 m = omega (arith, marked-first segmentSize p noSegment (k - 1) within (sym (ap (λ (r : Report). r .marker) report-is) ∙ m))
+  marked-is-1 m = omega (arith, marked-first p noSegment (k - 1) within (sym (ap (λ (r : Report). r .marker) report-is) ∙ m))
 
-  pub saying-says : PlanRanges p → (g : Segment) × Mem g (cut segmentSize p) × Says g (sayingAt p k)
-  saying-says r = sayings-say segmentSize p (omega arith) (r .often) (sayingAt p k) (mem-at (sayings segmentSize p) (k - 1) noSegment within)
+  pub saying-says : PlanRanges p → (g : Segment) × Mem g (cut p) × Says g (sayingAt p k)
+  saying-says r = sayings-say p (r .wide) (r .often) (sayingAt p k) (mem-at (sayings p) (k - 1) noSegment within)
 
   pub report-in-range : PlanRanges p → reportInRange (reportAt p k) ≡ true
   unfolding reportInRange
   report-in-range r =
       let q = saying-says r in
       let s = q .2 in
-      let c = cut-place segmentSize p (omega arith) (fullSegments segmentSize p) 0 true (q .0) (q .1) in
-      let w = cut-within segmentSize p (omega arith) (fullSegments segmentSize p) 0 true (q .0) (q .1) in
+      let c = cut-place p (r .wide) (fullSegments p) 0 true (q .0) (q .1) in
+      let w = cut-within p (r .wide) (fullSegments p) 0 true (q .0) (q .1) in
       let known : isCode (sayingAt p k .code) ≡ true = rw (s .code ∙ c .code) (r .code) in
       rw report-is
       (and-both (r .type) (and-both known (and-both (le-leb (sayingAt p k .volume) 63 (omega (arith, s .volume, c .volume, r .volume)))
-      (and-both (le-leb 1 (sayingAt p k .duration) (s .some)) (le-leb (sayingAt p k .duration) 65535 (omega (arith, s .duration, w)))))))
+      (and-both (le-leb 1 (sayingAt p k .duration) (s .some)) (le-leb (sayingAt p k .duration) 65535 (omega (arith, s .duration, w, r .narrow)))))))
 
   pub report-fits : p .ssrc < 0x1_0000_0000 → ReportFits (reportAt p k)
   report-fits h = rw report-is (record { sequence = omega arith; timestamp = omega arith; ssrc = h })
@@ -97,10 +103,10 @@ module _ (p : Plan) (k : ℕ) (low : 1 ≤ k) (high : k ≤ length (reports p)) 
 -- a plan has a report 1, and it carries M
 pub some-report : (p : Plan) → 1 ≤ length (reports p)
 unfolding reports
-some-report p = omega (arith, length-wire p 0 (sayings segmentSize p), sayings-first segmentSize p noSegment .1)
+some-report p = omega (arith, length-wire p 0 (sayings p), sayings-first p noSegment .1)
 
 pub report-1-marked : (p : Plan) → reportAt p 1 .marker ≡ true
-report-1-marked p = ap (λ (r : Report). r .marker) (report-is p 1 (omega arith) (some-report p)) ∙ sayings-first segmentSize p noSegment .0
+report-1-marked p = ap (λ (r : Report). r .marker) (report-is p 1 (omega arith) (some-report p)) ∙ sayings-first p noSegment .0
 
 -- REPORT K OF A SENT EVENT
 
@@ -120,20 +126,20 @@ says-later n s = record {
 }
 
 pub plans-for : (t : Table) → PlansFor (planOf t)
-plans-for t = record { code = λ e. refl; long = λ e. refl; volume = λ e. refl }
+plans-for t = record { code = λ e. refl; long = λ e. refl; size = λ e. refl; volume = λ e. refl }
 
 -- an event's segments are those of its plan, moved to its start
-pub sent-later : (t : Table) (e : Sent) → map (later (e .start)) (cut segmentSize (planOf t e)) ≡ segmentsSent segmentSize (planOf t) e
+pub sent-later : (t : Table) (e : Sent) → map (later (e .start)) (cut (planOf t e)) ≡ segmentsSent (planOf t) e
 sent-later t e =
     let z : e .start + 0 ≡ e .start = omega arith in
-    cut-later segmentSize (planOf t e) (e .start) (fullSegments segmentSize (planOf t e)) 0 true
-    ∙ ap (λ (o : ℕ). cutFrom segmentSize (planOf t e) (fullSegments segmentSize (planOf t e)) o true) z
+    cut-later (planOf t e) (e .start) (fullSegments (planOf t e)) 0 true
+    ∙ ap (λ (o : ℕ). cutFrom (planOf t e) (fullSegments (planOf t e)) o true) z
 
-pub later-mem : (t : Table) (e : Sent) (g : Segment) → Mem g (cut segmentSize (planOf t e)) → Mem (later (e .start) g) (segmentsSent segmentSize (planOf t) e)
-later-mem t e g m = rw (sent-later t e) at (mem-map (later (e .start)) (cut segmentSize (planOf t e)) g m)
+pub later-mem : (t : Table) (e : Sent) (g : Segment) → Mem g (cut (planOf t e)) → Mem (later (e .start) g) (segmentsSent (planOf t) e)
+later-mem t e g m = rw (sent-later t e) at (mem-map (later (e .start)) (cut (planOf t e)) g m)
 
 module _ (t : Table) (e : Sent) (range : planInRange (planOf t e) ≡ true) (k : ℕ) (low : 1 ≤ k) (high : k ≤ length (reports (planOf t e))) where
-  pub said-says : (g : Segment) × Mem g (segmentsSent segmentSize (planOf t) e) × Says g (said t e k)
+  pub said-says : (g : Segment) × Mem g (segmentsSent (planOf t) e) × Says g (said t e k)
   said-says =
       let q = saying-says (planOf t e) k low high (plan-ranges (planOf t e) range) in
       (later (e .start) (q .0), later-mem t e (q .0) (q .1), says-later (e .start) (q .2))
@@ -143,8 +149,8 @@ module _ (t : Table) (e : Sent) (range : planInRange (planOf t e) ≡ true) (k :
   said-before =
       let r = plan-ranges (planOf t e) range in
       let q = saying-says (planOf t e) k low high r in
-      let c = cut-place segmentSize (planOf t e) (omega arith) (fullSegments segmentSize (planOf t e)) 0 true (q .0) (q .1) in
-      omega (arith, q .2 .offset, c .to, c .long, cut-units segmentSize (planOf t e) (r .some))
+      let c = cut-place (planOf t e) (r .wide) (fullSegments (planOf t e)) 0 true (q .0) (q .1) in
+      omega (arith, q .2 .offset, c .to, c .long, cut-units (planOf t e) (r .some))
 
   pub sent-bytes : bytesOf t (sent e k) ≡ packetOf (reportAt (planOf t e) k)
   sent-bytes = planned-bytes (planOf t e) k low high range

@@ -1,4 +1,4 @@
--- The events that demand 3 speaks of, and their sizes (01, "From segments to events": "The sizes for demand 3").
+-- The events that demand 3 speaks of, and their sizes (01, "From segments to events": "The sizes for demand 3"; 02, request 3).
 use Prim.Native.Nat.{ℕ, _+_, _%_, _<_, _≤_}
 use mathlib.Core.Path.{_≡_}
 use mathlib.Core.Bool.{true}
@@ -8,16 +8,16 @@ use Rattle.model.specs.declared.Report.{Report}
 use Rattle.model.specs.declared.Plan.{Plan}
 use Rattle.model.specs.declared.Table.{Table}
 use Rattle.model.specs.declared.Event.{Event}
-use Rattle.model.specs.Limits.{segmentSize}
 use Rattle.model.specs.Plan.{cut, planInRange}
 
--- An event to be sent. Its start is an offset; it has a period and a first sequence number of its own.
+-- An event to be sent. Its start is an offset; it has a period, a segment size and a first sequence number of its own.
 pub record Sent : Type 0 where
   pub code : ℕ
   pub start : ℕ
   pub length : ℕ
   pub volume : ℕ
   pub period : ℕ
+  pub «segment_size» : ℕ
   pub sequence : ℕ
 
 abbrev pub end : Sent → ℕ
@@ -35,6 +35,7 @@ planOf t e = record {
   volume = e .volume;
   length = e .length;
   period = e .period;
+  «segment_size» = e .«segment_size»;
 }
 
 -- as it is to be listed: key, start, length and volume as sent, began and ended both true
@@ -50,11 +51,11 @@ Apart (e ∷ f ∷ es) = (end e ≤ f .start) × Apart (f ∷ es)
 -- the segments of all events together
 unfoldable pub segmentsInAll : Table → List Sent → ℕ
 segmentsInAll t [] = 0
-segmentsInAll t (e ∷ es) = length (cut segmentSize (planOf t e)) + segmentsInAll t es
+segmentsInAll t (e ∷ es) = length (cut (planOf t e)) + segmentsInAll t es
 
 -- the sizes
 pub record Sizes (t : Table) (es : List Sent) : Type 0 where
-  -- lengths, periods, volumes and codes as in the plan
+  -- lengths, periods, segment sizes, volumes and codes as in the plan
   pub ranges : (e : Sent) → List·Memᴰ e es → planInRange (planOf t e) ≡ true
   pub apart : Apart es
   -- each ends below offset 2^31

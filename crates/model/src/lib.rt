@@ -15,7 +15,8 @@ pub struct Report {
     pub duration: u32,
 }
 
-// What a sender plans for one event. `sequence` is the first sequence number, `start` the first timestamp.
+// What a sender plans for one event. `sequence` is the first sequence number, `start` the first timestamp, `segment_size` what
+// each segment but the last holds, in timestamp units.
 #[repr(C)]
 pub struct Plan {
     pub payload_type: u32,
@@ -26,6 +27,7 @@ pub struct Plan {
     pub volume: u32,
     pub length: u32,
     pub period: u32,
+    pub segment_size: u32,
 }
 
 // A segment as the table keeps it: the largest duration, the smallest volume number, whether E and M were heard.

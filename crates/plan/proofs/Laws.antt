@@ -27,7 +27,6 @@ use Rattle.model.specs.Plan.{
   onWire,
   reports,
 }
-use Rattle.model.specs.Limits.{segmentSize}
 use Rattle.model.specs.Refusals.{noReport}
 use Rattle.model.proofs.Plans.{reports-of-segment, length-wire, wire-at, length-interim}
 use Rattle.plan.specs.declared.Place.{Place}
@@ -106,110 +105,110 @@ of-first period g more k i d h =
     let e : 0 * k + i ≡ i = omega arith in
     rw (e, List·getD-append (reportsOf period g) more d i (omega (arith, reports-of-segment period g))) (of-segment period g i d h)
 
-module _ (size : ℕ) (p : Plan) where
-  length-all : (n o : ℕ) (m : Bool) → length (reportsOfAll (p .period) (cutFrom size p n o m))
-      ≡ n * perFull size p + reportsIn (p .period) (restUnits size p)
+module _ (p : Plan) where
+  length-all : (n o : ℕ) (m : Bool) → length (reportsOfAll (p .period) (cutFrom p n o m))
+      ≡ n * perFull p + reportsIn (p .period) (restUnits p)
   unfolding cutFrom reportsOfAll
   length-all zero o m =
-      let g = segment o (p .code) (restUnits size p) (p .volume) true m in
+      let g = segment o (p .code) (restUnits p) (p .volume) true m in
       rw length-append (omega (arith, reports-of-segment (p .period) g))
   length-all (suc n) o m =
-      let g = segment o (p .code) size (p .volume) false m in
-      rw length-append (omega (arith, reports-of-segment (p .period) g, length-all n (o + size) false))
+      let g = segment o (p .code) (p .«segment_size») (p .volume) false m in
+      rw length-append (omega (arith, reports-of-segment (p .period) g, length-all n (o + p .«segment_size») false))
 
   -- segment j of n full ones and the last, from offset o on
   abbrev unitsOf : ℕ → ℕ → ℕ
-  unitsOf n j = cond (ltb j n) size (restUnits size p)
+  unitsOf n j = cond (ltb j n) (p .«segment_size») (restUnits p)
 
   abbrev segmentAt : ℕ → ℕ → ℕ → Segment
-  segmentAt n o j = segment (o + j * size) (p .code) (unitsOf n j) (p .volume) (not (ltb j n)) false
+  segmentAt n o j = segment (o + j * p .«segment_size») (p .code) (unitsOf n j) (p .volume) (not (ltb j n)) false
 
   -- report i of segment j
   in-all : (n o : ℕ) (m : Bool) (j i : ℕ) (d : Segment) → j ≤ n → i < reportsIn (p .period) (unitsOf n j)
-      → getD (reportsOfAll (p .period) (cutFrom size p n o m)) (j * perFull size p + i) d ≡ ofSegment (p .period) (segmentAt n o j) i
+      → getD (reportsOfAll (p .period) (cutFrom p n o m)) (j * perFull p + i) d ≡ ofSegment (p .period) (segmentAt n o j) i
   unfolding cutFrom reportsOfAll
   in-all zero o m zero i d a h =
-      let f : o + 0 * size ≡ o = omega arith in
-      rw f (of-first (p .period) (segment o (p .code) (restUnits size p) (p .volume) true m) [] (perFull size p) i d h)
+      let f : o + 0 * p .«segment_size» ≡ o = omega arith in
+      rw f (of-first (p .period) (segment o (p .code) (restUnits p) (p .volume) true m) [] (perFull p) i d h)
   in-all zero o m (suc j) i d a h = absurd (omega arith)
   in-all (suc n) o m zero i d a h =
-      let f : o + 0 * size ≡ o = omega arith in
+      let f : o + 0 * p .«segment_size» ≡ o = omega arith in
       let t = lt-ltb 0 (suc n) (omega arith) in
-      let g = segment o (p .code) size (p .volume) false m in
-      let more = reportsOfAll (p .period) (cutFrom size p n (o + size) false) in
-      rw (f, t) (of-first (p .period) g more (perFull size p) i d (rw t at h))
+      let g = segment o (p .code) (p .«segment_size») (p .volume) false m in
+      let more = reportsOfAll (p .period) (cutFrom p n (o + p .«segment_size») false) in
+      rw (f, t) (of-first (p .period) g more (perFull p) i d (rw t at h))
   in-all (suc n) o m (suc j) i d a h =
-      let g = segment o (p .code) size (p .volume) false m in
-      let e : suc j * perFull size p + i ≡ perFull size p + (j * perFull size p + i) = omega arith in
-      let f : o + suc j * size ≡ o + size + j * size = omega arith in
+      let g = segment o (p .code) (p .«segment_size») (p .volume) false m in
+      let e : suc j * perFull p + i ≡ perFull p + (j * perFull p + i) = omega arith in
+      let f : o + suc j * p .«segment_size» ≡ o + p .«segment_size» + j * p .«segment_size» = omega arith in
       let t = leb·suc-suc (suc j) n in
-      let more = reportsOfAll (p .period) (cutFrom size p n (o + size) false) in
+      let more = reportsOfAll (p .period) (cutFrom p n (o + p .«segment_size») false) in
       rw (e, f, t)
-      (past (reportsOf (p .period) g) more (perFull size p) (j * perFull size p + i) d (reports-of-segment (p .period) g)
-      ∙ in-all n (o + size) false j i d (omega arith) (rw t at h))
+      (past (reportsOf (p .period) g) more (perFull p) (j * perFull p + i) d (reports-of-segment (p .period) g)
+      ∙ in-all n (o + p .«segment_size») false j i d (omega arith) (rw t at h))
 
   -- THE EVENT
 
-  pub length-sayings : length (sayings size p) ≡ reportTotal size p
-  length-sayings = length-mark (reportsOfAll (p .period) (cutFrom size p (fullSegments size p) 0 true)) ∙ length-all (fullSegments size p) 0 true
+  pub length-sayings : length (sayings p) ≡ reportTotal p
+  length-sayings = length-mark (reportsOfAll (p .period) (cutFrom p (fullSegments p) 0 true)) ∙ length-all (fullSegments p) 0 true
 
   -- report i stands in a segment of the event, among that segment's reports
   pub record InPlace (i : ℕ) (at : Place) : Type 0 where
-    pub segment : at .segment ≤ fullSegments size p
-    pub index : at .index < reportsIn (p .period) (unitsAt size p (at .segment))
-    pub both : at .segment * perFull size p + at .index ≡ i
+    pub segment : at .segment ≤ fullSegments p
+    pub index : at .index < reportsIn (p .period) (unitsAt p (at .segment))
+    pub both : at .segment * perFull p + at .index ≡ i
 
-  module _ (some : 1 ≤ size) (steps : 1 ≤ p .period) (i : ℕ) (h : i < reportTotal size p) where
+  module _ (some : 1 ≤ p .«segment_size») (steps : 1 ≤ p .period) (i : ℕ) (h : i < reportTotal p) where
     -- the last segment is no longer than a full one, so it has no more reports
-    last-steps : interimCount (p .period) (restUnits size p) * p .period ≤ size - 1
-    last-steps = omega (arith, div-mul-le-self (restUnits size p - 1) (p .period), mod-lt (p .length - 1) some)
+    last-steps : interimCount (p .period) (restUnits p) * p .period ≤ p .«segment_size» - 1
+    last-steps = omega (arith, div-mul-le-self (restUnits p - 1) (p .period), mod-lt (p .length - 1) some)
 
-    last-at-most : reportsIn (p .period) (restUnits size p) ≤ perFull size p
+    last-at-most : reportsIn (p .period) (restUnits p) ≤ perFull p
     last-at-most = omega (arith, le-div-iff-mul-le steps .1 last-steps)
 
-    pub in-place : InPlace i (placeOf size p i)
+    pub in-place : InPlace i (placeOf p i)
     unfolding unitsAt
-    in-place = record { segment = upper; index = go (decLt q n); both = div-add-mod' i (perFull size p) }
+    in-place = record { segment = upper; index = go (decLt q n); both = div-add-mod' i (perFull p) }
       where
         q : ℕ
-        q = i / perFull size p
+        q = i / perFull p
 
         n : ℕ
-        n = fullSegments size p
+        n = fullSegments p
 
         upper : q ≤ n
         upper =
-            let l : q < suc n = div-lt-iff-lt-mul {k = perFull size p} {x = i} {y = suc n} (omega arith) .1 (omega (arith, last-at-most)) in
+            let l : q < suc n = div-lt-iff-lt-mul {k = perFull p} {x = i} {y = suc n} (omega arith) .1 (omega (arith, last-at-most)) in
             omega arith
 
-        go : Dec (q < n) → i % perFull size p < reportsIn (p .period) (unitsOf n q)
+        go : Dec (q < n) → i % perFull p < reportsIn (p .period) (unitsOf n q)
         go (yes l) = rw (lt-ltb q n l) (mod-lt i (omega arith))
         go (no l) =
             let e : n ≡ q = omega (arith, upper) in
-            rw (le-ltb q n (omega arith)) (omega (arith, div-add-mod' i (perFull size p), ap (λ (k : ℕ). k * perFull size p) e))
+            rw (le-ltb q n (omega arith)) (omega (arith, div-add-mod' i (perFull p), ap (λ (k : ℕ). k * perFull p) e))
 
-    pub saying-at : (d : Segment) → getD (sayings size p) i d ≡ sayingAt size p (placeOf size p i) i
+    pub saying-at : (d : Segment) → getD (sayings p) i d ≡ sayingAt p (placeOf p i) i
     unfolding unitsAt endedAt
     saying-at d =
-        let n = fullSegments size p in
-        let at = placeOf size p i in
-        let rs = reportsOfAll (p .period) (cutFrom size p n 0 true) in
+        let n = fullSegments p in
+        let at = placeOf p i in
+        let rs = reportsOfAll (p .period) (cutFrom p n 0 true) in
         let e = in-all n 0 true (at .segment) (at .index) d (in-place .segment) (in-place .index) in
-        let f : 0 + at .segment * size ≡ at .segment * size = omega arith in
+        let f : 0 + at .segment * p .«segment_size» ≡ at .segment * p .«segment_size» = omega arith in
         rw f at
         (mark-at rs i d (ofSegment (p .period) (segmentAt n 0 (at .segment)) (at .index)) (omega (arith, length-all n 0 true)) (rw (in-place .both) at e) refl)
 
 -- ON THE WIRE
 
-pub length-reports : (p : Plan) → length (reports p) ≡ reportTotal segmentSize p
+pub length-reports : (p : Plan) → length (reports p) ≡ reportTotal p
 unfolding reports
-length-reports p = length-wire p 0 (sayings segmentSize p) ∙ length-sayings segmentSize p
+length-reports p = length-wire p 0 (sayings p) ∙ length-sayings p
 
-pub report-at : (p : Plan) → 1 ≤ p .period → (i : ℕ) → i < reportTotal segmentSize p
-    → getD (reports p) i noReport ≡ onWire p i (sayingAt segmentSize p (placeOf segmentSize p i) i)
+pub report-at : (p : Plan) → 1 ≤ p .«segment_size» → 1 ≤ p .period → (i : ℕ) → i < reportTotal p
+    → getD (reports p) i noReport ≡ onWire p i (sayingAt p (placeOf p i) i)
 unfolding reports
-report-at p steps i h =
-    let rs = sayings segmentSize p in
+report-at p some steps i h =
+    let rs = sayings p in
     let d = segment 0 0 0 0 false false in
     let e : 0 + i ≡ i = omega arith in
-    rw (wire-at p 0 i rs noReport d (omega (arith, length-sayings segmentSize p)), e, saying-at segmentSize p (omega arith) steps i h d)
+    rw (wire-at p 0 i rs noReport d (omega (arith, length-sayings p)), e, saying-at p some steps i h d)

@@ -1,9 +1,9 @@
 -- A law for each way through a function, and the bounds that keep its numbers within their types.
 use Prim.Native.Nat.{ℕ, _+_, _-_, _*_, _/_, _%_, _<_, _≤_}
-use mathlib.Core.Path.{_≡_, sym, _∙_}
+use mathlib.Core.Path.{_≡_, refl, sym, _∙_}
 use mathlib.Core.Bool.{Bool, true, false, not, cond}
 use native.Mathlib.Omega.{arith}
-use native.Mathlib.Nat.{div-le-self, mul-le-mul-right, le-div-iff-mul-le}
+use native.Mathlib.Nat.{div-le-self, mul-le-mul-right, le-div-iff-mul-le, mod-lt}
 use lib.Dec.{ltb, leb, eqb}
 use lib.ListN.{length}
 use mir.Syntax.{w32}
@@ -12,17 +12,39 @@ use borrow.Author.Needs.{needs}
 use borrow.Author.Tests.{lt-ltb, le-ltb, le-leb, lt-leb, not-true, not-false}
 use Rattle.model.specs.declared.Plan.{Plan}
 use Rattle.model.specs.declared.CountAnswer.the-variants.{Reports, Refused}
-use Rattle.model.specs.Limits.{segmentSize}
 use Rattle.model.specs.Refusals.{toldCount}
-use Rattle.model.specs.Plan.{fullSegments, restUnits, planInRange, reportCount, reports, reportAt}
+use Rattle.model.specs.Plan.{fullSegments, restUnits, longest, lengthsInRange, planInRange, reportCount, reports, reportAt}
+use Rattle.model.proofs.Cuts.{full-few}
 use Rattle.model.proofs.Sends.{plan-ranges}
 use Rattle.plan.specs.declared.Place.{Place}
-use Rattle.plan.specs.Formula.{interimCount, reportsIn, durationAt, reportTotal, placeOf, unitsAt, endedAt}
+use Rattle.plan.specs.Formula.{interimCount, reportsIn, durationAt, perFull, reportTotal, placeOf, unitsAt, endedAt}
 use Rattle.plan.proofs.Laws.{length-reports, in-place, report-at}
 
 -- THE RANGES, test by test in the order of the code
 
 module _ (p : Plan) where
+  pub no-size : p .«segment_size» < 1 → false ≡ lengthsInRange p
+  no-size h = simp lt-leb
+
+  module _ (a : 1 ≤ p .«segment_size») where
+    pub too-wide : 65535 < p .«segment_size» → false ≡ lengthsInRange p
+    too-wide h = simp (le-leb, lt-leb)
+
+    module _ (b : p .«segment_size» ≤ 65535) where
+      pub no-length : p .length < 1 → false ≡ lengthsInRange p
+      no-length h = simp (le-leb, lt-leb)
+
+      module _ (c : 1 ≤ p .length) where
+        pub too-long : longest p < p .length → false ≡ lengthsInRange p
+        too-long h = simp (le-leb, lt-leb)
+
+        module _ (d : p .length ≤ longest p) where
+          pub no-period : p .period < 1 → false ≡ lengthsInRange p
+          no-period h = simp (le-leb, lt-leb)
+
+          pub by-period : 1 ≤ p .period → leb (p .period) 65535 ≡ lengthsInRange p
+          by-period h = simp le-leb
+
   pub wrong-type : 127 < p .«payload_type» → false ≡ planInRange p
   wrong-type h = simp lt-leb
 
@@ -34,30 +56,34 @@ module _ (p : Plan) where
       pub wrong-volume : 63 < p .volume → false ≡ planInRange p
       wrong-volume h = simp (le-leb, lt-leb)
 
-      module _ (c : p .volume ≤ 63) where
-        pub no-length : p .length < 1 → false ≡ planInRange p
-        no-length h = simp (le-leb, lt-leb)
-
-        module _ (d : 1 ≤ p .length) where
-          pub too-long : 1048560 < p .length → false ≡ planInRange p
-          too-long h = simp (le-leb, lt-leb)
-
-          module _ (e : p .length ≤ 1048560) where
-            pub no-period : p .period < 1 → false ≡ planInRange p
-            no-period h = simp (le-leb, lt-leb)
-
-            pub by-period : 1 ≤ p .period → leb (p .period) 65535 ≡ planInRange p
-            by-period h = simp le-leb
+      pub by-lengths : p .volume ≤ 63 → (r : Bool) → r ≡ lengthsInRange p → r ≡ planInRange p
+      by-lengths h r e = rw e (simp le-leb)
 
 -- what is known of a plan in range
 module _ (p : Plan) (h : planInRange p ≡ true) where
   pub some-length : 1 ≤ p .length
   some-length = plan-ranges p h .some
 
+  pub some-size : 1 ≤ p .«segment_size»
+  some-size = plan-ranges p h .wide
+
+  pub size-fits : p .«segment_size» ≤ 65535
+  size-fits = plan-ranges p h .narrow
+
   pub some-period : 1 ≤ p .period
   some-period = plan-ranges p h .often
 
+  pub rest-fits : (r : ℕ) → r ≡ restUnits p → r ≤ 65535
+  rest-fits r e = omega (arith, mod-lt (p .length - 1) some-size, size-fits)
+
+  -- the segments before the last
+  few-full : fullSegments p ≤ 15
+  few-full = full-few p some-size (plan-ranges p h .most)
+
 -- ONE SEGMENT
+
+pub one-more : (a size m : ℕ) → m ≤ 1 → 1 ≤ size → Fits w32 size → Fits w32 (a % size + m)
+one-more a size m l h f = record { fits = omega (arith, mod-lt a h, f .fits) }
 
 module _ (units period n : ℕ) (interim : n ≡ interimCount period units) where
   pub few-more : (m : ℕ) → m ≤ 3 → units ≤ 65535 → Fits w32 (n + m)
@@ -67,29 +93,30 @@ module _ (units period n : ℕ) (interim : n ≡ interimCount period units) wher
   unfolding durationAt
   before-end i h = let k : i < interimCount period units = rw interim at h in simp lt-ltb
 
-  pub at-end : (i : ℕ) → n ≤ i → units ≡ durationAt period units i
+  pub at-end : (i : ℕ) → n ≤ i → (u : ℕ) → u ≡ units → u ≡ durationAt period units i
   unfolding durationAt
-  at-end i h = let k : interimCount period units ≤ i = rw interim at h in simp le-ltb
+  at-end i h u e = let k : interimCount period units ≤ i = rw interim at h in rw e (simp le-ltb)
 
-  pub within : Fits w32 units → 1 ≤ period → (i : ℕ) → i < n → Fits w32 ((i + 1) * period)
-  within f h i l =
+  -- a multiple of the period below the length
+  next-within : 1 ≤ period → (i : ℕ) → i < n → (i + 1) * period ≤ units
+  next-within h i l =
       let k : (i + 1) * period ≤ units - 1 = le-div-iff-mul-le h .0 (omega arith) in
-      record { fits = omega (arith, f .fits) }
+      omega arith
 
 -- THE COUNT
 
-module _ (p : Plan) (h : planInRange p ≡ true) (n a : ℕ) (full : n ≡ fullSegments segmentSize p) (per : a ≡ reportsIn (p .period) 65535) where
+module _ (p : Plan) (h : planInRange p ≡ true) (n a : ℕ) (full : n ≡ fullSegments p) (per : a ≡ perFull p) where
   full-reports : n * a ≤ 983055
   full-reports =
-      let l : n ≤ 15 = omega (arith, plan-ranges p h .most) in
-      omega (arith, mul-le-mul-right a l, div-le-self 65534 (p .period))
+      let l : n ≤ 15 = omega (arith, few-full p h) in
+      omega (arith, mul-le-mul-right a l, div-le-self (p .«segment_size» - 1) (p .period), size-fits p h)
 
   pub full-fit : Fits w32 (n * a)
   full-fit = record { fits = omega (arith, full-reports) }
 
-  module _ (r b : ℕ) (rest : r ≡ restUnits segmentSize p) (last : b ≡ reportsIn (p .period) r) where
+  module _ (r b : ℕ) (rest : r ≡ restUnits p) (last : b ≡ reportsIn (p .period) r) where
     pub all-fit : Fits w32 (n * a + b)
-    all-fit = record { fits = omega (arith, full-reports, div-le-self (r - 1) (p .period)) }
+    all-fit = record { fits = omega (arith, full-reports, div-le-self (r - 1) (p .period), rest-fits p h r rest) }
 
     pub all-counted : n * a + b ≡ length (reports p)
     all-counted = rw (length-reports p, full, per, last, rest)
@@ -106,48 +133,64 @@ module _ (p : Plan) (b : Bool) (tested : b ≡ planInRange p) where
 
 -- A REPORT
 
-module _ (p : Plan) (n : ℕ) (full : n ≡ fullSegments segmentSize p) where
-  pub a-full : (j : ℕ) → j < n → 65535 ≡ unitsAt segmentSize p j
+module _ (p : Plan) (n : ℕ) (full : n ≡ fullSegments p) where
+  pub a-full : (j : ℕ) → j < n → p .«segment_size» ≡ unitsAt p j
   unfolding unitsAt
-  a-full j h = let k : j < fullSegments segmentSize p = rw full at h in simp lt-ltb
+  a-full j h = let k : j < fullSegments p = rw full at h in simp lt-ltb
 
-  pub the-last : (j : ℕ) → n ≤ j → (r : ℕ) → r ≡ restUnits segmentSize p → r ≡ unitsAt segmentSize p j
+  pub the-last : (j : ℕ) → n ≤ j → (r : ℕ) → r ≡ restUnits p → r ≡ unitsAt p j
   unfolding unitsAt
-  the-last j h r e = let k : fullSegments segmentSize p ≤ j = rw full at h in rw e (simp le-ltb)
+  the-last j h r e = let k : fullSegments p ≤ j = rw full at h in rw e (simp le-ltb)
 
-  pub goes-on : (at : Place) → at .segment < n → false ≡ endedAt segmentSize p at
+  pub goes-on : (at : Place) → at .segment < n → false ≡ endedAt p at
   unfolding endedAt
-  goes-on at h = let k : at .segment < fullSegments segmentSize p = rw full at h in simp lt-ltb
+  goes-on at h = let k : at .segment < fullSegments p = rw full at h in simp lt-ltb
 
-  pub may-end : (at : Place) → n ≤ at .segment → (u c : ℕ) → u ≡ unitsAt segmentSize p (at .segment) → c ≡ interimCount (p .period) u
-      → ltb c (at .index) ≡ endedAt segmentSize p at
+  pub may-end : (at : Place) → n ≤ at .segment → (c : ℕ) → c ≡ interimCount (p .period) (unitsAt p (at .segment))
+      → ltb c (at .index) ≡ endedAt p at
   unfolding endedAt
-  may-end at h u c e f = let k : fullSegments segmentSize p ≤ at .segment = rw full at h in rw (f, e) (simp le-ltb)
+  may-end at h c e = let k : fullSegments p ≤ at .segment = rw full at h in rw e (simp le-ltb)
 
-pub some-units : (p : Plan) (j u : ℕ) → u ≡ unitsAt segmentSize p j → 1 ≤ u
+  -- the interim reports of a segment are those of a full one, or of the last
+  pub interim-full : (j : ℕ) → j < n → (c : ℕ) → c ≡ interimCount (p .period) (p .«segment_size») → c ≡ interimCount (p .period) (unitsAt p j)
+  interim-full j h c e = rw (← a-full j h) e
+
+  pub interim-last : (j : ℕ) → n ≤ j → (r : ℕ) → r ≡ restUnits p → (c : ℕ) → c ≡ interimCount (p .period) r → c ≡ interimCount (p .period) (unitsAt p j)
+  interim-last j h r f c e = rw (← the-last j h r f) e
+
+-- no segment is longer than the size, so a multiple of the period within it fits
+units-fit : (p : Plan) → planInRange p ≡ true → (j : ℕ) → unitsAt p j ≤ 65535
 unfolding unitsAt
-some-units p j u e = go (ltb j (fullSegments segmentSize p)) e
+units-fit p h j = go (ltb j (fullSegments p))
   where
-    go : (b : Bool) → u ≡ cond b segmentSize (restUnits segmentSize p) → 1 ≤ u
-    go true e = omega arith
-    go false e = omega arith
+    go : (b : Bool) → cond b (p .«segment_size») (restUnits p) ≤ 65535
+    go true = size-fits p h
+    go false = rest-fits p h (restUnits p) refl
 
-pub placed : (p : Plan) (i a : ℕ) → a ≡ reportsIn (p .period) 65535 → record { segment = i / a; index = i % a } ≡ placeOf segmentSize p i
+module _ (p : Plan) (h : planInRange p ≡ true) (j i n : ℕ) (interim : n ≡ interimCount (p .period) (unitsAt p j)) (l : i < n) where
+  pub number-fits : Fits w32 (i + 1)
+  number-fits = record { fits = omega (arith, interim, div-le-self (unitsAt p j - 1) (p .period), units-fit p h j) }
+
+  pub multiple-fits : Fits w32 ((i + 1) * p .period)
+  multiple-fits = record { fits = omega (arith, next-within (unitsAt p j) (p .period) n interim (some-period p h) i l, units-fit p h j) }
+
+pub placed : (p : Plan) (i a : ℕ) → a ≡ perFull p → record { segment = i / a; index = i % a } ≡ placeOf p i
 placed p i a per = rw per
 
 module _ (p : Plan) (h : planInRange p ≡ true) (i k : ℕ) (number : i ≡ k - 1) (first : 1 ≤ k) (last : k ≤ length (reports p))
-    (at : Place) (place : at ≡ placeOf segmentSize p i) where
-  in-plan : i < reportTotal segmentSize p
+    (at : Place) (place : at ≡ placeOf p i) where
+  in-plan : i < reportTotal p
   in-plan = omega (arith, length-reports p)
 
-  pub offset-fits : Fits w32 (at .segment * 65535)
-  offset-fits =
-      let w = in-place segmentSize p (omega arith) (some-period p h) i in-plan in
-      rw place (record { fits = omega (arith, w .segment, plan-ranges p h .most) })
+  pub offset-fits : (size : ℕ) → size ≤ 65535 → Fits w32 (at .segment * size)
+  offset-fits size narrow =
+      let w = in-place p (some-size p h) (some-period p h) i in-plan in
+      let few : placeOf p i .segment ≤ 15 = omega (arith, w .segment, few-full p h) in
+      rw place (record { fits = omega (arith, mul-le-mul-right size few) })
 
-  pub as-planned : (u d : ℕ) → u ≡ unitsAt segmentSize p (at .segment) → d ≡ durationAt (p .period) u (at .index)
-      → (e : Bool) → e ≡ endedAt segmentSize p at
-      → (s t : ℕ) → s ≡ (p .sequence + i) % 65536 → t ≡ (p .start + at .segment * 65535) % 0x1_0000_0000
+  pub as-planned : (d : ℕ) → d ≡ durationAt (p .period) (unitsAt p (at .segment)) (at .index)
+      → (e : Bool) → e ≡ endedAt p at
+      → (s t : ℕ) → s ≡ (p .sequence + i) % 65536 → t ≡ (p .start + at .segment * p .«segment_size») % 0x1_0000_0000
       → record {
         marker = eqb i 0;
         «payload_type» = p .«payload_type»;
@@ -160,24 +203,30 @@ module _ (p : Plan) (h : planInRange p ≡ true) (i k : ℕ) (number : i ≡ k -
         duration = d;
       } ≡ reportAt p k
   unfolding reportAt
-  as-planned u d units duration e ended s t sequence timestamp =
-      rw (sequence, timestamp, ended, duration, units, place, ← number, report-at p (some-period p h) i in-plan)
+  as-planned d duration e ended s t sequence timestamp =
+      rw (sequence, timestamp, ended, duration, place, ← number, report-at p (some-size p h) (some-period p h) i in-plan)
 
 pub ruleset planning = (
   needs,
-  wrong-type,
-  wrong-code,
-  wrong-volume,
+  no-size,
+  too-wide,
   no-length,
   too-long,
   no-period,
   by-period,
+  wrong-type,
+  wrong-code,
+  wrong-volume,
+  by-lengths,
   some-length,
+  some-size,
+  size-fits,
+  rest-fits,
   some-period,
+  one-more,
   few-more,
   before-end,
   at-end,
-  within,
   full-fit,
   all-fit,
   all-counted,
@@ -188,7 +237,10 @@ pub ruleset planning = (
   the-last,
   goes-on,
   may-end,
-  some-units,
+  interim-full,
+  interim-last,
+  number-fits,
+  multiple-fits,
   placed,
   offset-fits,
   as-planned,

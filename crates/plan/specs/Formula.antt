@@ -21,13 +21,13 @@ module _ (period : ℕ) where
   unfoldable pub durationAt : ℕ → ℕ → ℕ
   durationAt units i = cond (ltb i (interimCount units)) ((i + 1) * period) units
 
-module _ (size : ℕ) (p : Plan) where
+module _ (p : Plan) where
   -- the reports of a full segment
   abbrev pub perFull : ℕ
-  perFull = reportsIn (p .period) size
+  perFull = reportsIn (p .period) (p .«segment_size»)
 
   abbrev pub reportTotal : ℕ
-  reportTotal = fullSegments size p * perFull + reportsIn (p .period) (restUnits size p)
+  reportTotal = fullSegments p * perFull + reportsIn (p .period) (restUnits p)
 
   -- the segment of report i, and the report's place in it: no segment has more reports than a full one
   abbrev pub placeOf : ℕ → Place
@@ -35,15 +35,15 @@ module _ (size : ℕ) (p : Plan) where
 
   -- the units of segment j
   unfoldable pub unitsAt : ℕ → ℕ
-  unitsAt j = cond (ltb j (fullSegments size p)) size (restUnits size p)
+  unitsAt j = cond (ltb j (fullSegments p)) (p .«segment_size») (restUnits p)
 
   -- E stands on the second and third report at the end of the last segment
   unfoldable pub endedAt : Place → Bool
   endedAt at =
-      not (ltb (at .segment) (fullSegments size p))
+      not (ltb (at .segment) (fullSegments p))
       && ltb (interimCount (p .period) (unitsAt (at .segment))) (at .index)
 
   -- what report i says, if it stands at this place
   abbrev pub sayingAt : Place → ℕ → Segment
   sayingAt at i =
-      segment (at .segment * size) (p .code) (durationAt (p .period) (unitsAt (at .segment)) (at .index)) (p .volume) (endedAt at) (eqb i 0)
+      segment (at .segment * p .«segment_size») (p .code) (durationAt (p .period) (unitsAt (at .segment)) (at .index)) (p .volume) (endedAt at) (eqb i 0)

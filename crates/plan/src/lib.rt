@@ -3,22 +3,40 @@ ghost use Prim.Native.Nat.{_+_, _%_, _≤_};
 ghost use mathlib.Core.Path.{_≡_};
 ghost use mathlib.Core.Bool.{true};
 ghost use lib.ListN.{length};
-ghost use Rattle.model.specs.Limits.{segmentSize};
 ghost use Rattle.model.specs.Refusals.{toldCount, toldWrite};
-ghost use Rattle.model.specs.Plan.{fullSegments, restUnits, planInRange, reportCount, reports, reportAt, writeReport};
+ghost use Rattle.model.specs.Plan.{fullSegments, restUnits, lengthsInRange, planInRange, reportCount, reports, reportAt, writeReport};
 ghost use Rattle.plan.specs.Formula.{interimCount, reportsIn, durationAt, placeOf, unitsAt, endedAt};
 use model::CountAnswer;
 use model::Plan;
 use model::Report;
 use model::WriteAnswer;
 
-// What a full segment holds, in timestamp units.
-const SEGMENT_SIZE: u32 = 65535;
-
 // Where a report stands: its segment, and its place among that segment's reports. Both count from 0.
 struct Place {
     segment: u32,
     index: u32,
+}
+
+// Whether the segment size, the length and the period are in their ranges. The size is tested first, so that 16 sizes fit.
+fn lengths_in_range(p: Plan) -> bool
+    ensures { λ r. ⌜ r ≡ lengthsInRange p ⌝ }
+{
+    if p.segment_size < 1 {
+        return false;
+    }
+    if 65535 < p.segment_size {
+        return false;
+    }
+    if p.length < 1 {
+        return false;
+    }
+    if 16 * p.segment_size < p.length {
+        return false;
+    }
+    if p.period < 1 {
+        return false;
+    }
+    p.period <= 65535
 }
 
 // Whether each number of the plan is in its range.
@@ -34,32 +52,25 @@ fn in_range(p: Plan) -> bool
     if 63 < p.volume {
         return false;
     }
-    if p.length < 1 {
-        return false;
-    }
-    if 1048560 < p.length {
-        return false;
-    }
-    if p.period < 1 {
-        return false;
-    }
-    p.period <= 65535
+    lengths_in_range(p)
 }
 
-// The segments before the last. The last holds at least one unit, so a length of 65,535 has none before it.
+// The segments before the last. The last holds at least one unit, so a length of one size has none before it.
 fn full_segments(p: Plan) -> u32
     requires { ⌜ 1 ≤ p .length ⌝ }
-    ensures { λ r. ⌜ r ≡ fullSegments segmentSize p ⌝ }
+    requires { ⌜ 1 ≤ p .«segment_size» ⌝ }
+    ensures { λ r. ⌜ r ≡ fullSegments p ⌝ }
 {
-    (p.length - 1) / SEGMENT_SIZE
+    (p.length - 1) / p.segment_size
 }
 
-// The units of the last segment: what the full ones leave, 1 to 65,535.
+// The units of the last segment: what the full ones leave, 1 to the size.
 fn rest_units(p: Plan) -> u32
     requires { ⌜ 1 ≤ p .length ⌝ }
-    ensures { λ r. ⌜ r ≡ restUnits segmentSize p ⌝ }
+    requires { ⌜ 1 ≤ p .«segment_size» ⌝ }
+    ensures { λ r. ⌜ r ≡ restUnits p ⌝ }
 {
-    (p.length - 1) % SEGMENT_SIZE + 1
+    (p.length - 1) % p.segment_size + 1
 }
 
 // The reports of a segment before its end: one at each multiple of the period below its length.
@@ -86,7 +97,7 @@ fn total(p: Plan) -> u32
     requires { ⌜ planInRange p ≡ true ⌝ }
     ensures { λ r. ⌜ r ≡ length (reports p) ⌝ }
 {
-    full_segments(p) * reports_in(SEGMENT_SIZE, p.period) + reports_in(rest_units(p), p.period)
+    full_segments(p) * reports_in(p.segment_size, p.period) + reports_in(rest_units(p), p.period)
 }
 
 // How many reports the plan has, or 12.
@@ -101,10 +112,10 @@ pub fn report_count(p: Plan) -> CountAnswer
 
 // Where report i stands, from 0: no segment has more reports than a full one, so one division tells.
 fn place_of(p: Plan, i: u32) -> Place
-    requires { ⌜ 1 ≤ p .period ⌝ }
-    ensures { λ r. ⌜ r ≡ placeOf segmentSize p i ⌝ }
+    requires { ⌜ planInRange p ≡ true ⌝ }
+    ensures { λ r. ⌜ r ≡ placeOf p i ⌝ }
 {
-    let per = reports_in(SEGMENT_SIZE, p.period);
+    let per = reports_in(p.segment_size, p.period);
     Place {
         segment: i / per,
         index: i % per,
@@ -113,36 +124,46 @@ fn place_of(p: Plan, i: u32) -> Place
 
 // The units of a segment: every one but the last is full.
 fn units_of(p: Plan, segment: u32) -> u32
-    requires { ⌜ 1 ≤ p .length ⌝ }
-    ensures { λ r. ⌜ r ≡ unitsAt segmentSize p segment ⌝ }
+    requires { ⌜ planInRange p ≡ true ⌝ }
+    ensures { λ r. ⌜ r ≡ unitsAt p segment ⌝ }
 {
     if segment < full_segments(p) {
-        return SEGMENT_SIZE;
+        return p.segment_size;
     }
     rest_units(p)
 }
 
-// The duration a report says: the next multiple of the period, or at the end the segment's length.
-fn duration_at(units: u32, period: u32, index: u32) -> u32
-    requires { ⌜ 1 ≤ units ⌝ }
-    requires { ⌜ 1 ≤ period ⌝ }
-    ensures { λ r. ⌜ r ≡ durationAt period units index ⌝ }
+// The reports of a segment before its end. Both counts are those of `total`, so that none is divided for again.
+fn interim_of(p: Plan, segment: u32) -> u32
+    requires { ⌜ planInRange p ≡ true ⌝ }
+    ensures { λ r. ⌜ r ≡ interimCount (p .period) (unitsAt p segment) ⌝ }
 {
-    if index < interim_count(units, period) {
-        return (index + 1) * period;
+    if segment < full_segments(p) {
+        return interim_count(p.segment_size, p.period);
     }
-    units
+    interim_count(rest_units(p), p.period)
+}
+
+// The duration a report says: the next multiple of the period, or at the end the segment's length.
+fn duration_at(p: Plan, segment: u32, index: u32) -> u32
+    requires { ⌜ planInRange p ≡ true ⌝ }
+    ensures { λ r. ⌜ r ≡ durationAt (p .period) (unitsAt p segment) index ⌝ }
+{
+    if index < interim_of(p, segment) {
+        return (index + 1) * p.period;
+    }
+    units_of(p, segment)
 }
 
 // E: on the last two reports of the last segment.
 fn ended_at(p: Plan, at: Place) -> bool
     requires { ⌜ planInRange p ≡ true ⌝ }
-    ensures { λ r. ⌜ r ≡ endedAt segmentSize p at ⌝ }
+    ensures { λ r. ⌜ r ≡ endedAt p at ⌝ }
 {
     if at.segment < full_segments(p) {
         return false;
     }
-    interim_count(units_of(p, at.segment), p.period) < at.index
+    interim_of(p, at.segment) < at.index
 }
 
 // The sequence number after so many reports, modulo 65,536.
@@ -168,17 +189,16 @@ fn planned(p: Plan, k: u32) -> Report
 {
     let i = k - 1;
     let at = place_of(p, i);
-    let units = units_of(p, at.segment);
     Report {
         marker: i == 0,
         payload_type: p.payload_type,
         sequence: sequence_after(p.sequence, i),
-        timestamp: timestamp_at(p.start, at.segment * SEGMENT_SIZE),
+        timestamp: timestamp_at(p.start, at.segment * p.segment_size),
         ssrc: p.ssrc,
         code: p.code,
         ended: ended_at(p, at),
         volume: p.volume,
-        duration: duration_at(units, p.period, at.index),
+        duration: duration_at(p, at.segment, at.index),
     }
 }
 

@@ -23,6 +23,7 @@ fn digit(sequence: u16, start: u32, code: u32, length: u32) -> Plan {
         volume: table5::VOLUME,
         length: length,
         period: 400,
+        segment_size: 65535,
     }
 }
 

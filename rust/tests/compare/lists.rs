@@ -3,6 +3,7 @@
 use crate::both::Both;
 use crate::make::tables::{any_event, broken_table, table};
 use crate::paper::events as paper;
+use crate::paper::table::Segment;
 use crate::random::Random;
 use crate::tally::Tally;
 use twimbor::sys::{self, EventResult, Listed};
@@ -42,10 +43,28 @@ pub fn list(
     answer
 }
 
+/// Counts the unmarked segments that start one unit before the end of the nearest earlier one of
+/// their code, at its end, and one unit after it, where that one has no E and is shorter than
+/// 65,535 units.
+fn count_meetings(segments: &[Segment], counts: &mut [usize; 3]) {
+    for this in segments.iter().filter(|this| !this.marked) {
+        if let Some(i) = paper::nearest(segments, this)
+            && !segments[i].ended
+            && segments[i].duration < 65_535
+        {
+            let end = segments[i].offset + u64::from(segments[i].duration);
+            for (count, start) in counts.iter_mut().zip(end - 1..) {
+                *count += usize::from(this.offset == start);
+            }
+        }
+    }
+}
+
 #[test]
 fn events_are_listed_as_on_paper() {
     let random = &Random::new(8);
     let (mut numbers, mut lists) = (Tally::default(), Tally::default());
+    let mut met = [0; 3];
     for i in 0..TABLES {
         let both = Both::of(if i % 4 == 0 { broken_table(random) } else { table(random) });
         let events = paper::events(&both.paper);
@@ -60,7 +79,12 @@ fn events_are_listed_as_on_paper() {
             numbers.add(event_at(table, &events, k));
         }
         both.compare();
+        if events.is_ok() {
+            count_meetings(&both.paper.segments[..both.paper.count], &mut met);
+        }
     }
     numbers.finish("event_at", &[13, 16]);
     lists.finish("list", &[15, 16]);
+    println!("unmarked segments one unit before the end of a short one, at it, after it: {met:?}");
+    assert!(!met.contains(&0));
 }

@@ -8,7 +8,7 @@ use twimbor::sys::{self, CountResult};
 use twimbor::{Plan, Refusal, Report};
 
 pub const INPUTS: usize = PLANS * (1 + REPORTS);
-const PLANS: usize = 15_000;
+const PLANS: usize = 40_000;
 const REPORTS: usize = 8;
 
 type Reports = Result<Vec<Report>, u8>;
@@ -61,15 +61,23 @@ fn plans_are_as_on_paper() {
     writes.finish("write_report", &[12, 13, 14]);
 }
 
-/// Every report of some plans, each shape of one: one segment, several, a rest of 1, period 1.
+/// Every report of some plans, each shape of one: one segment, several, as many as there may be, a
+/// rest of 1, no rest, period 1.
 #[test]
 fn whole_plans_are_as_on_paper() {
     let random = &Random::new(4);
     let lengths = [1, 2, 399, 400, 401, 65_534, 65_535, 65_536, 70_000, 131_070, 1_048_560];
-    for length in lengths {
+    let mut shapes = lengths.map(|length| (65_535, length)).to_vec();
+    shapes.extend((1..=16).map(|length| (1, length)));
+    for size in [2, 3, 160, 399, 400, 401, 2_401, 15_983, 65_534] {
+        let lengths = [1, size - 1, size, size + 1, 2 * size, 16 * size - 1, 16 * size];
+        shapes.extend(lengths.map(|length| (size, length)));
+    }
+    for (segment_size, length) in shapes {
         for period in [1, 160, 400, 2_400, 65_534, 65_535] {
-            let plan = Plan { payload_type: 101, length, period, ..make::plan(random) };
-            let plan = Plan { code: plan.code % 16, volume: plan.volume % 64, ..plan };
+            let any = make::plan(random);
+            let plan = Plan { code: any.code % 16, volume: any.volume % 64, ..any };
+            let plan = Plan { payload_type: 101, length, period, segment_size, ..plan };
             let reports = paper::reports(&plan).unwrap();
             let packets = plan.packets().unwrap();
             assert_eq!(packets.len(), reports.len());

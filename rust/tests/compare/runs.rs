@@ -12,28 +12,32 @@ use twimbor::{Event, Plan, Report};
 
 const RUNS: usize = 4_000;
 
-/// Events that do not overlap, within 01's sizes for one table; often one right after another.
-fn events(random: &Random) -> Vec<Event> {
+/// Events that do not overlap, within 01's sizes for one table, each with its own segment size;
+/// often one right after another.
+fn events(random: &Random) -> Vec<(Event, u32)> {
     let mut events = Vec::new();
     let mut room = random.pick(&[4, 30, 128]);
-    let mut end = random.pick(&[0, 0x7FFF_0000, random.u32() >> 1, random.u32() >> 9]);
+    let top = random.pick(&[0x7FFF_0000, 0x7FFF_FFC0]);
+    let mut end = random.pick(&[0, top, random.u32() >> 1, random.u32() >> 9]);
     let codes = 1 + random.below(3);
     loop {
         let start = end + random.pick(&[0, 0, 1, 65_535, random.below(100_000)]);
-        let full = 65_535 * random.below(random.pick(&[2, 2, 4, 16]));
-        let length = (full + random.pick(&[0, 1, 65_535, random.below(65_535)])).max(1);
-        if length.div_ceil(65_535) > room || start + length >= 1 << 31 {
+        let any = 1 + random.below(65_535);
+        let size = random.pick(&[1, 2, 15_983, 65_535, 65_535, any]);
+        let full = size * random.below(random.pick(&[2, 2, 4, 16]));
+        let length = (full + random.pick(&[0, 1, size, random.below(size)])).max(1);
+        if length.div_ceil(size) > room || start + length >= 1 << 31 {
             return events;
         }
-        room -= length.div_ceil(65_535);
+        room -= length.div_ceil(size);
         end = start + length;
         let (code, volume) = (random.below(codes) as u8, random.below(64) as u8);
-        events.push(Event { code, start, length, volume, began: true, ended: true });
+        events.push((Event { code, start, length, volume, began: true, ended: true }, size));
     }
 }
 
 /// The packets of an event that arrive: those needed, and some of the others, some several times.
-fn arriving(random: &Random, table: &Table, event: &Event) -> Vec<Vec<u8>> {
+fn arriving(random: &Random, table: &Table, event: &Event, segment_size: u32) -> Vec<Vec<u8>> {
     let often = (event.length / (1 + random.below(30))).clamp(1, 65_535);
     let plan = Plan {
         payload_type: u32::from(table.payload_type),
@@ -44,16 +48,17 @@ fn arriving(random: &Random, table: &Table, event: &Event) -> Vec<Vec<u8>> {
         volume: u32::from(event.volume),
         length: event.length,
         period: random.pick(&[65_535, 65_534, 30_000, often]),
+        segment_size,
     };
     let packets: Vec<_> = plan.packets().unwrap().map(Vec::from).collect();
     let reports: Vec<_> = packets.iter().map(|packet| Report::read(packet).unwrap()).collect();
     // Which reports meet each need: the first; a full one of each segment before the last; an end.
     let all = 0..reports.len();
     let mut needs = vec![vec![0], all.clone().filter(|&i| reports[i].ended).collect()];
-    for before in (0..(event.length - 1) / 65_535).map(|segment| segment * 65_535) {
-        let timestamp = plan.start.wrapping_add(before);
-        let full = |i: &usize| reports[*i].timestamp == timestamp && reports[*i].duration == 65_535;
-        needs.push(all.clone().filter(full).collect());
+    for before in (0..(event.length - 1) / segment_size).map(|segment| segment * segment_size) {
+        let full = (plan.start.wrapping_add(before), segment_size);
+        let is_full = |i: &usize| (reports[*i].timestamp, reports[*i].duration) == full;
+        needs.push(all.clone().filter(is_full).collect());
     }
     let mut numbers: Vec<usize> = needs.iter().map(|need| random.pick(need)).collect();
     let kept = random.pick(&[0, 20, 100]);
@@ -89,12 +94,12 @@ fn stranger(random: &Random, both: &mut Both, sent: &[Vec<u8>]) -> usize {
 #[test]
 fn the_list_is_what_was_sent() {
     let random = &Random::new(9);
-    let (mut sent_events, mut taken, mut strangers, mut full) = (0, 0, 0, 0);
+    let (mut sent_events, mut cut_short, mut taken, mut strangers, mut full) = (0, 0, 0, 0, 0);
     for _ in 0..RUNS {
         let mut both = Both::of(empty_table(random));
-        let events = events(random);
-        let arrive = |event| arriving(random, &both.paper, event);
-        let mut packets: Vec<_> = events.iter().flat_map(arrive).collect();
+        let planned = events(random);
+        let arrive = |(event, size): &(_, _)| arriving(random, &both.paper, event, *size);
+        let mut packets: Vec<_> = planned.iter().flat_map(arrive).collect();
         reorder(random, &mut packets);
         for packet in &packets {
             assert!(receive(&mut both, packet).is_ok());
@@ -104,6 +109,8 @@ fn the_list_is_what_was_sent() {
         }
         strangers += stranger(random, &mut both, &packets);
         let table = &both.library;
+        cut_short += planned.iter().filter(|(e, size)| e.length > *size && *size < 65_535).count();
+        let events: Vec<_> = planned.into_iter().map(|(event, _)| event).collect();
         sent_events += events.len();
         let room = events.len() + random.index(3);
         assert_eq!(table.events().as_ref(), Ok(&events), "{table:?}");
@@ -115,8 +122,8 @@ fn the_list_is_what_was_sent() {
         full += usize::from(table.head.count == 128);
     }
     println!(
-        "runs: {RUNS}, events sent and listed: {sent_events}, packets taken: {taken}, \
-         strangers refused: {strangers}, tables full: {full}"
+        "runs: {RUNS}, events sent and listed: {sent_events}, of them cut into short segments: \
+         {cut_short}, packets taken: {taken}, strangers refused: {strangers}, tables full: {full}"
     );
-    assert!(full > 0);
+    assert!(cut_short > 0 && full > 0);
 }

@@ -131,6 +131,7 @@ fn a_table_receives_many_as_on_paper() {
 
 /// The packets of an event that is sent to a table.
 fn sent(random: &Random, table: &Table) -> Vec<Vec<u8>> {
+    let segment_size = random.pick(&[65_535, 1 + random.below(65_535), 1 + random.below(100)]);
     let plan = Plan {
         payload_type: u32::from(table.payload_type),
         ssrc: table.ssrc,
@@ -138,8 +139,9 @@ fn sent(random: &Random, table: &Table) -> Vec<Vec<u8>> {
         start: table.origin.wrapping_add(random.u32() >> 1),
         code: random.below(16),
         volume: random.below(64),
-        length: 1 + random.below(1_048_560),
-        period: 20_000 + random.below(45_536),
+        length: 1 + random.below(16 * segment_size),
+        period: segment_size.div_ceil(1 + random.below(4)),
+        segment_size,
     };
     plan::reports(&plan).unwrap().iter().map(packet::bytes).collect()
 }

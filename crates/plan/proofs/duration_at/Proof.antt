@@ -3,8 +3,8 @@ use Rattle.plan.proofs.Ways.{planning}
 use Rattle.plan.proofs.duration_at.Statement.{statement}
 use Rattle.plan.proofs.duration_at.Tie as tie
 
-interim-count-requires : tie.Need-interim-count-requires
-interim-count-requires c κs = search planning
+interim-of-requires : tie.Need-interim-of-requires
+interim-of-requires c κs = search planning
 
 add-result : tie.Need-add-result
 add-result c = search planning
@@ -15,9 +15,12 @@ mul-result c = search planning
 returns : tie.Need-returns
 returns c = search planning
 
+units-of-requires : tie.Need-units-of-requires
+units-of-requires c κs = search planning
+
 returns-2 : tie.Need-returns-2
 returns-2 c = search planning
 
 pub duration-at-spec : {M : Type 1} → statement M
 duration-at-spec =
-    tie.close (tie.spec interim-count-requires add-result mul-result returns returns-2)
+    tie.close (tie.spec interim-of-requires add-result mul-result returns units-of-requires returns-2)

@@ -9,16 +9,12 @@ full-segments-requires c κs = search planning
 returns : tie.Need-returns
 returns c = search planning
 
-units-of-requires : tie.Need-units-of-requires
-units-of-requires c κs = search planning
-
-interim-count-requires : tie.Need-interim-count-requires
-interim-count-requires c κs = search planning
+interim-of-requires : tie.Need-interim-of-requires
+interim-of-requires c κs = search planning
 
 returns-2 : tie.Need-returns-2
 returns-2 c = search planning
 
 pub ended-at-spec : {M : Type 1} → statement M
 ended-at-spec =
-    tie.close
-    (tie.spec full-segments-requires returns units-of-requires interim-count-requires returns-2)
+    tie.close (tie.spec full-segments-requires returns interim-of-requires returns-2)

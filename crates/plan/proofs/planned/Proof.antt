@@ -9,9 +9,6 @@ sub-i c = search planning
 place-of-requires : tie.Need-place-of-requires
 place-of-requires c κs = search planning
 
-units-of-requires : tie.Need-units-of-requires
-units-of-requires c κs = search planning
-
 sequence-after-requires : tie.Need-sequence-after-requires
 sequence-after-requires c κs = search planning
 
@@ -36,7 +33,6 @@ planned-spec =
     (tie.spec
     sub-i
     place-of-requires
-    units-of-requires
     sequence-after-requires
     mul-timestamp-at
     timestamp-at-requires

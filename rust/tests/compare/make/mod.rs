@@ -32,15 +32,35 @@ pub fn report(random: &Random) -> Report {
     }
 }
 
+/// A segment size: the longest, short ones, any; now and then outside the range, also such that it
+/// looks small if 16 of it are counted in 32 bits, or itself in 16.
+fn segment_size(random: &Random) -> u32 {
+    let small = 1 + random.below(40);
+    let huge = (1 + random.below(15)) << 28 | small;
+    match random.below(16) {
+        0 => random.pick(&[0, 65_536, u32::MAX, 65_536 + small, huge]),
+        1..=3 => small,
+        4 => random.pick(&[1, 2, 400, 15_983, 65_534]),
+        5..=8 => 65_535,
+        _ => number(random, 1, 65_535),
+    }
+}
+
 pub fn plan(random: &Random) -> Plan {
-    let length = match random.below(3) {
-        0 => 65_535 * (1 + random.below(16)) + random.below(3) - 1,
-        1 => 1 + random.below(2_000),
-        _ => number(random, 1, 1_048_560),
+    let size = segment_size(random);
+    let in_range = size.clamp(1, 65_535);
+    let one_off = random.below(3).wrapping_sub(1);
+    let length = match random.below(4) {
+        0 => size.wrapping_mul(1 + random.below(16)).wrapping_add(one_off),
+        1 => size.wrapping_mul(random.pick(&[0, 16, 16, 17])).wrapping_add(one_off),
+        2 => 1 + random.below((16 * in_range).min(2_000)),
+        _ => number(random, 1, 16 * in_range),
     };
-    let period = match random.below(4) {
-        0 => length % 65_535,
-        1 => random.pick(&[160, 400, 2_400, 65_534, 65_535]),
+    let period = match random.below(6) {
+        0 => length % in_range,
+        1 => random.pick(&[in_range / 2, in_range / 3, in_range.wrapping_add(one_off)]),
+        2 => 1 + random.below(in_range),
+        3 => random.pick(&[160, 400, 2_400, 65_534, 65_535]),
         _ => number(random, 1, 65_535),
     };
     Plan {
@@ -52,5 +72,6 @@ pub fn plan(random: &Random) -> Plan {
         volume: number(random, 0, 63),
         length,
         period,
+        segment_size: size,
     }
 }

@@ -72,7 +72,7 @@ pub fn packet_for(random: &Random, table: &Table) -> Vec<u8> {
         0 => random.pick(&[0, 0x7FFF_FFFF, 0x8000_0000, 0xFFFF_FFFF]),
         1 => random.u32(),
         2 => random.u32() >> 1,
-        3 => (near.offset as u32).wrapping_add(65_535),
+        3 => (near.offset as u32).wrapping_add(u32::from(near.duration)),
         _ => near.offset as u32,
     };
     let mut report = report(random);

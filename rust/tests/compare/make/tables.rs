@@ -28,21 +28,25 @@ pub fn any_event(random: &Random) -> Event {
     }
 }
 
-/// A valid table whose segments often continue one another, with anything in the places above.
+/// A valid table whose segments often continue one another, or miss it by one unit, with anything
+/// in the places above.
 pub fn table(random: &Random) -> Table {
     let small = random.index(6);
     let wanted = random.pick(&[small, small, random.index(129), 127, 128]);
     let (codes, marks, ends) = (1 + random.below(16), 1 + random.below(9), 2 + random.below(9));
-    let base = u64::from(random.pick(&[0, 0x7FF0_0000, random.u32() >> 1]));
+    let size = random.pick(&[65_535, 65_534, 15_983, 400, 2, 1, random.u16().max(1)]);
+    let base = random.pick(&[0, (1 << 31) - 16 * u64::from(size), u64::from(random.u32() >> 1)]);
     let (mut held, mut last) = (BTreeMap::new(), Segment::default());
     while held.len() < wanted {
-        let grid = base + 65_535 * u64::from(random.below(24));
-        let after_last = last.offset + u64::from(last.duration);
-        let any = random.pick(&[grid + 1, u64::from(random.u32()), 0x7FFF_FFFF]);
+        let grid = base + u64::from(size) * u64::from(random.below(24));
+        let end = last.offset + u64::from(last.duration);
+        let any = u64::from(random.pick(&[random.u32(), 0x7FFF_FFFF]));
+        let near = random.pick(&[grid + 1, end + 1, end.saturating_sub(1)]);
+        let one_off = random.pick(&[size.saturating_sub(1).max(1), size.saturating_add(1)]);
         last = Segment {
-            offset: random.pick(&[grid, grid, grid, after_last, any]) % (1 << 31),
+            offset: random.pick(&[grid, grid, grid, end, end, near, any]) % (1 << 31),
             code: random.pick(&[last.code, random.below(codes) as u8]),
-            duration: random.pick(&[65_535, 65_535, 65_535, 65_534, random.u16().max(1)]),
+            duration: random.pick(&[size, size, size, one_off, random.u16().max(1)]),
             volume: random.below(64) as u16,
             ended: random.one_in(ends),
             marked: random.one_in(marks),

@@ -3,17 +3,22 @@
 use super::table::{Segment, Table, is_valid};
 use twimbor::Event;
 
+/// The place of the nearest earlier segment of the same code.
+pub fn nearest(segments: &[Segment], this: &Segment) -> Option<usize> {
+    let earlier = |s: &Segment| s.code == this.code && s.offset < this.offset;
+    let earlier = (0..segments.len()).filter(|&i| earlier(&segments[i]));
+    earlier.max_by_key(|&i| segments[i].offset)
+}
+
 /// The place of the segment that this one continues, if it continues one.
 fn continued(segments: &[Segment], this: &Segment) -> Option<usize> {
     if this.marked {
         return None;
     }
-    let earlier = |s: &Segment| s.code == this.code && s.offset < this.offset;
-    let earlier = (0..segments.len()).filter(|&i| earlier(&segments[i]));
-    let nearest = earlier.max_by_key(|&i| segments[i].offset)?;
+    let nearest = nearest(segments, this)?;
     let Segment { offset, duration, ended, .. } = segments[nearest];
     let ends_there = offset + u64::from(duration) == this.offset;
-    (!ended && duration == 65_535 && ends_there).then_some(nearest)
+    (!ended && ends_there).then_some(nearest)
 }
 
 /// The events of a table.

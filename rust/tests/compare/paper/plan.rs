@@ -8,15 +8,16 @@ pub fn reports(plan: &Plan) -> Result<Vec<Report>, u8> {
     if plan.payload_type > 127
         || plan.code > 15
         || plan.volume > 63
-        || !(1..=1_048_560).contains(&plan.length)
         || !(1..=65_535).contains(&plan.period)
+        || !(1..=65_535).contains(&plan.segment_size)
+        || !(1..=16 * plan.segment_size).contains(&plan.length)
     {
         return Err(12);
     }
     let mut reports = Vec::new();
     let mut before = 0;
     while before < plan.length {
-        let units = (plan.length - before).min(65_535);
+        let units = (plan.length - before).min(plan.segment_size);
         let is_last = before + units == plan.length;
         let multiples = (1..).map(|times| times * plan.period);
         let interim = multiples.take_while(|&duration| duration < units).map(|d| (d, false));

@@ -14,7 +14,7 @@ abbrev Inv-loop : tie.InvT-loop
 Inv-loop i₀ i = Unit {0}
 
 abbrev μ-loop : tie.MeasureT-loop
-μ-loop i₀ i = 10 - i
+μ-loop i₀ i = 15 - i
 
 loop-holds : tie.Need-loop-holds Inv-loop2 μ-loop2 Inv-loop μ-loop
 loop-holds c = search needs

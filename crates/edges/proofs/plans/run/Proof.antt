@@ -8,13 +8,13 @@ abbrev Inv-loop : tie.InvT-loop
 Inv-loop i₀ i = Unit {0}
 
 abbrev μ-loop : tie.MeasureT-loop
-μ-loop i₀ i = 21 - i
+μ-loop i₀ i = 37 - i
 
 abbrev Inv-loop2 : tie.InvT-loop2
 Inv-loop2 j₀ j = Unit {0}
 
 abbrev μ-loop2 : tie.MeasureT-loop2
-μ-loop2 j₀ j = 20 - j
+μ-loop2 j₀ j = 34 - j
 
 loop-holds : tie.Need-loop-holds Inv-loop μ-loop Inv-loop2 μ-loop2
 loop-holds c = search needs

@@ -9,9 +9,6 @@ returns c = search grouping
 returns-2 : tie.Need-returns-2
 returns-2 c = search grouping
 
-returns-3 : tie.Need-returns-3
-returns-3 c = search grouping
-
 cast-result : tie.Need-cast-result
 cast-result c = search grouping
 
@@ -24,8 +21,8 @@ add-result c = search grouping
 cast-result-3 : tie.Need-cast-result-3
 cast-result-3 c = search grouping
 
-returns-4 : tie.Need-returns-4
-returns-4 c = search grouping
+returns-3 : tie.Need-returns-3
+returns-3 c = search grouping
 
 pub continues-spec : {M : Type 1} → statement M
 continues-spec =
@@ -33,9 +30,8 @@ continues-spec =
     (tie.spec
     returns
     returns-2
-    returns-3
     cast-result
     cast-result-2
     add-result
     cast-result-3
-    returns-4)
+    returns-3)
