@@ -36,7 +36,7 @@ abbrev other : Sent
 other = press 6 400 300 300 300
 
 -- from where the first report of the first press ends: 40 with M, 40 with E twice, of key 5 and of key 6. The presses overlap, which
--- demand 3 does not allow: of those that do not, no interim report ends where a segment starts.
+-- demand 3 does not allow: of those that do not, no interim report ends where a segment starts (`interim-meets-none` of Recovered).
 abbrev within : Sent
 within = press 5 160 40 40 40
 
