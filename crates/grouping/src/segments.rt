@@ -22,7 +22,7 @@ pub fn continues(p: Segment, s: Segment) -> bool
 }
 
 // The segment at place i.
-pub fn segment_at<'a>(keys: &'a [u64; 128], heard: &'a [u32; 128], i: usize) -> Segment
+pub(crate) fn segment_at<'a>(keys: &'a [u64; 128], heard: &'a [u32; 128], i: usize) -> Segment
     requires { ⌜ InRanges (now keys) (now heard) (i + 1) ⌝ }
     ensures { λ r. ⌜ r ≡ segmentAt (now (keys .entry)) (now (heard .entry)) i ⌝ }
 {

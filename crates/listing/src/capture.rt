@@ -94,7 +94,12 @@ fn refill(file: i32, b: &mut [u8], from: usize) -> usize
 
 // Reads a capture to its end, and receives its frames. What is left in the buffer after a pass is a part of one frame, so there
 // is always room to read more.
-pub fn received(head: Head, keys: &mut [u64; 128], heard: &mut [u32; 128], file: i32) -> Capture
+pub(crate) fn received(
+    head: Head,
+    keys: &mut [u64; 128],
+    heard: &mut [u32; 128],
+    file: i32,
+) -> Capture
     requires { ⌜ valid (tableOf head (now keys) (now heard)) ≡ true ⌝ }
 {
     let mut space = buffer();

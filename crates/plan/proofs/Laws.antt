@@ -16,6 +16,7 @@ use Rattle.model.specs.Plan.{
   segment,
   fullSegments,
   restUnits,
+  nextStart,
   cutFrom,
   saying,
   interim,
@@ -28,6 +29,7 @@ use Rattle.model.specs.Plan.{
   reports,
 }
 use Rattle.model.specs.Refusals.{noReport}
+use Rattle.model.proofs.Cuts.{whole, after}
 use Rattle.model.proofs.Plans.{reports-of-segment, length-wire, wire-at, length-interim}
 use Rattle.plan.specs.declared.Place.{Place}
 use Rattle.plan.specs.Formula.{interimCount, reportsIn, durationAt, perFull, reportTotal, placeOf, unitsAt, endedAt, sayingAt}
@@ -113,8 +115,8 @@ module _ (p : Plan) where
       let g = segment o (p .code) (restUnits p) (p .volume) true m in
       rw length-append (omega (arith, reports-of-segment (p .period) g))
   length-all (suc n) o m =
-      let g = segment o (p .code) (p .«segment_size») (p .volume) false m in
-      rw length-append (omega (arith, reports-of-segment (p .period) g, length-all n (o + p .«segment_size») false))
+      let g = whole p o m in
+      rw length-append (omega (arith, reports-of-segment (p .period) g, length-all n (nextStart p o) false))
 
   -- segment j of n full ones and the last, from offset o on
   abbrev unitsOf : ℕ → ℕ → ℕ
@@ -134,18 +136,18 @@ module _ (p : Plan) where
   in-all (suc n) o m zero i d a h =
       let f : o + 0 * p .«segment_size» ≡ o = omega arith in
       let t = lt-ltb 0 (suc n) (omega arith) in
-      let g = segment o (p .code) (p .«segment_size») (p .volume) false m in
-      let more = reportsOfAll (p .period) (cutFrom p n (o + p .«segment_size») false) in
+      let g = whole p o m in
+      let more = reportsOfAll (p .period) (after p n o) in
       rw (f, t) (of-first (p .period) g more (perFull p) i d (rw t at h))
   in-all (suc n) o m (suc j) i d a h =
-      let g = segment o (p .code) (p .«segment_size») (p .volume) false m in
+      let g = whole p o m in
       let e : suc j * perFull p + i ≡ perFull p + (j * perFull p + i) = omega arith in
       let f : o + suc j * p .«segment_size» ≡ o + p .«segment_size» + j * p .«segment_size» = omega arith in
       let t = leb·suc-suc (suc j) n in
-      let more = reportsOfAll (p .period) (cutFrom p n (o + p .«segment_size») false) in
+      let more = reportsOfAll (p .period) (after p n o) in
       rw (e, f, t)
       (past (reportsOf (p .period) g) more (perFull p) (j * perFull p + i) d (reports-of-segment (p .period) g)
-      ∙ in-all n (o + p .«segment_size») false j i d (omega arith) (rw t at h))
+      ∙ in-all n (nextStart p o) false j i d (omega arith) (rw t at h))
 
   -- THE EVENT
 

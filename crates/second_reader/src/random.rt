@@ -14,7 +14,7 @@ fn mixed(n: u32, draw: u32) -> u32 {
 }
 
 // A draw for packet n, below a limit.
-pub fn drawn(n: u32, draw: u32, limit: u32) -> u32
+pub(crate) fn drawn(n: u32, draw: u32, limit: u32) -> u32
     requires { ⌜ 0 < limit ⌝ }
     ensures { λ r. ⌜ r < limit ⌝ }
 {

@@ -7,7 +7,7 @@ ghost use lib.ListN.{length, getD};
 ghost use Rattle.table.specs.Columns.{Ordered, Parts};
 
 // How many of the first n keys are below the one wanted, found by halving.
-pub fn find(keys: &[u64], n: usize, wanted: u64) -> usize
+pub(crate) fn find(keys: &[u64], n: usize, wanted: u64) -> usize
     requires { ⌜ n ≤ length (now keys) ⌝ }
     requires { ⌜ Ordered (now keys) n ⌝ }
     ensures { λ r. ⌜ Parts (now (keys .entry)) n wanted r ⌝ }
@@ -26,7 +26,7 @@ pub fn find(keys: &[u64], n: usize, wanted: u64) -> usize
 }
 
 // Whether the key at place i of the first n is the one wanted.
-pub fn stands_at(keys: &[u64], n: usize, i: usize, wanted: u64) -> bool
+pub(crate) fn stands_at(keys: &[u64], n: usize, i: usize, wanted: u64) -> bool
     requires { ⌜ n ≤ length (now keys) ⌝ }
     ensures { λ r. ⌜ r ≡ (ltb i n && eqb (getD (now (keys .entry)) i 0) wanted) ⌝ }
 {
