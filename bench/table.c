@@ -25,6 +25,34 @@ static void least(double *best, double t)
     if (t < *best) *best = t;
 }
 
+static void same_answer(const twimbor_table *t, const uint8_t *packet, size_t bytes)
+{
+    twimbor_table copies[] = {*t, *t, *t};
+    twimbor_received ours = twimbor_receive(&copies[0], packet, bytes);
+    plain_answer plain[] = {plain_receive(&copies[1], packet, bytes), plain_receive_valid(&copies[2], packet, bytes)};
+    for (int i = 0; i < 2; i++)
+        if (plain[i].refusal != ours.refusal || plain[i].is_new != ours.is_new || plain[i].probes != ours.probes) exit(1);
+}
+
+/* Plain C counts the segments looked at as ours does: with each number held a report before each segment, at each and after all, and
+ * a packet that is refused before the search. */
+static void same_probes(void)
+{
+    twimbor_table t;
+    if (twimbor_open(&t, 101, 7, 1000) != 0) exit(1);
+    for (uint32_t held = 0;; held++) {
+        for (uint32_t offset = 0; offset <= 2 * held; offset++) {
+            twimbor_report r = {false, 101, 0, 1000 + offset, 7, 5, false, 0, 1};
+            if (twimbor_write(r, packets, 16) != 0) exit(1);
+            same_answer(&t, packets, 16);
+            same_answer(&t, packets, 15);
+        }
+        if (held == 128) return;
+        twimbor_set_segment(&t, held, (twimbor_segment){2 * held + 1, 5, 1, 0, false, false});
+        t.head.count++;
+    }
+}
+
 /* Known segments in a fixed cycle, as many as are held. */
 static twimbor_table filled(int held)
 {
@@ -109,6 +137,7 @@ int main(void)
 {
     static const int held[] = {1, 4, 16, 64, 128}, events[] = {1, 16, 64, 128};
     static const double limits[] = {2.0, 1.6, 1.2, 1.0, 1.0};
+    same_probes();
     for (int i = 0; i < 5; i++) receiving(held[i], limits[i]);
     for (int i = 0; i < 4; i++) listing(events[i], true);
     for (int i = 0; i < 4; i++) listing(events[i], false);

@@ -1,8 +1,8 @@
 /* Twimbor: RTP packets that carry one telephone-event report (RFC 4733).
  *
  * Every function checks its own input and answers a refusal's number, 0 if nothing is refused. Under a refusal nothing lent
- * changes, but for the table of twimbor_open, and the values answered are zeros, but for the count of twimbor_received. Link with
- * the archive that `rt staticlib twimbor` writes.
+ * changes, but for the table of twimbor_open, and the values answered are zeros, but for the count of twimbor_received, and its
+ * probes under 11. Link with the archive that `rt staticlib twimbor` writes.
  *
  * A pointer with a number of `bytes` or `records` stands for that many, a pointer to a table or a column for all of it. What it
  * points to may not be written by anything else during the call, and what the call writes may not overlap anything else that is
@@ -140,6 +140,7 @@ typedef struct {
     uint64_t refusal;
     bool is_new;                    /* taken, and its segment is new */
     size_t count;                   /* the segments held after the call; under a refusal, as many as before */
+    size_t probes;                  /* the segments looked at to find the report's pair: at most 8; 0 if refused before that */
 } twimbor_received;
 
 /* One event of the list. */
@@ -198,6 +199,11 @@ static inline bool twimbor_is_valid(const twimbor_table *table)
 /* Receives a packet, and takes its report into the table: the pair of offset and code keeps the largest duration, the smallest
  * volume number, whether E and whether M was heard. The sequence number plays no part. `is_new` tells whether the pair was not
  * held before. A new segment moves those after it up by one place; the places above them stay.
+ *
+ * The pair is looked up by halving: of the range of segments held, at first all of them, the middle one is looked at, rounded
+ * down; what is right of it is kept if it is smaller than the pair, else what is left of it, until nothing is left. `probes`
+ * tells how many were looked at, never more than 8. It is given for a report taken and under 11, which is found out by the
+ * search; under every other refusal nothing was looked up, and it is 0.
  *
  * Refused, in this order: 16 if the table fails its tests; 1 to 4 as by twimbor_read; 5 if it is another payload type than the
  * table's; 6 if it is another SSRC; 17, 7, 8 and 9 as by twimbor_read; 10 if the offset is 2^31 or more; 11 if 128 segments

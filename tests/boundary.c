@@ -190,22 +190,31 @@ static bool around_stays(void)
     return true;
 }
 
+/* How many of n segments are looked at for a pair whose place is the first or the second: what is left of the middle is kept, half
+ * of them rounded down, until the first of all was looked at. */
+static size_t probes_at_start(size_t n)
+{
+    size_t probes = 0;
+    for (; n > 0; n /= 2) probes++;
+    return probes;
+}
+
 static void receiving(void)
 {
     twimbor_table *table = opened(), want = *table;
     for (int i = 0; i < 3; i++) {
         twimbor_received r = twimbor_receive(table, REPORTS[i], 16);
-        EXPECT(r.refusal == 0 && r.is_new == (i == 0) && r.count == 1);
+        EXPECT(r.refusal == 0 && r.is_new == (i == 0) && r.count == 1 && r.probes == (i == 0 ? 0 : 1));
     }
     want.head.count = 1;
     twimbor_set_segment(&want, 0, HEARD);
     EXPECT(same_table(table, &want));
 
     twimbor_received r = twimbor_receive(table, REPORTS[0], 0);
-    EXPECT(r.refusal == TWIMBOR_TOO_SHORT && !r.is_new && r.count == 1 && same_table(table, &want));
+    EXPECT(r.refusal == TWIMBOR_TOO_SHORT && !r.is_new && r.count == 1 && r.probes == 0 && same_table(table, &want));
     for (size_t i = 0; i < LENGTHS; i++) {
         r = twimbor_receive(table, long_packet(), lengths[i].bytes);
-        EXPECT(r.refusal == lengths[i].refusal && !r.is_new && r.count == 1 && same_table(table, &want));
+        EXPECT(r.refusal == lengths[i].refusal && !r.is_new && r.count == 1 && r.probes == 0 && same_table(table, &want));
     }
 
     /* Up to the last place: each new segment moves all but the first. */
@@ -215,11 +224,20 @@ static void receiving(void)
         EXPECT(twimbor_write(report, output, 16) == 0);
         want = *table;
         r = twimbor_receive(table, output, 16);
+        EXPECT(r.probes == probes_at_start(n));
         if (n < 128) EXPECT(r.refusal == 0 && r.is_new && r.count == n + 1);
         else EXPECT(r.refusal == TWIMBOR_TABLE_FULL && !r.is_new && r.count == 128 && same_table(table, &want));
     }
     EXPECT(table->head.count == 128 && same_segment(twimbor_segment_at(table, 0), HEARD));
     EXPECT(twimbor_segment_at(table, 1).offset == 1000 - 127 && twimbor_segment_at(table, 127).offset == 1000 - 1);
+
+    /* Each segment of the full table once more: only the first two take an eighth look. */
+    for (size_t i = 0; i < 128; i++) {
+        report.timestamp = FIRST.timestamp + twimbor_segment_at(table, i).offset;
+        EXPECT(twimbor_write(report, output, 16) == 0);
+        r = twimbor_receive(table, output, 16);
+        EXPECT(r.refusal == 0 && !r.is_new && r.count == 128 && r.probes == (i < 2 ? 8 : 7));
+    }
     EXPECT(twimbor_is_valid(table) && around_stays());
 }
 
@@ -295,7 +313,7 @@ static void failing(void)
         memcpy(list, old, sizeof list);
         EXPECT(!twimbor_is_valid(table));
         twimbor_received r = twimbor_receive(table, REPORTS[0], 16);
-        EXPECT(r.refusal == TWIMBOR_INVALID_TABLE && !r.is_new && r.count == counts[i]);
+        EXPECT(r.refusal == TWIMBOR_INVALID_TABLE && !r.is_new && r.count == counts[i] && r.probes == 0);
         twimbor_event_result e = twimbor_event_at(table, 1);
         EXPECT(e.refusal == TWIMBOR_INVALID_TABLE && same_event(e.event, none));
         twimbor_listed l = twimbor_list(table, list, 1);

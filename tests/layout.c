@@ -54,10 +54,11 @@ AT(twimbor_segment, volume, 8, 1);
 AT(twimbor_segment, ended, 9, 1);
 AT(twimbor_segment, marked, 10, 1);
 
-SIZE(twimbor_received, 24);
+SIZE(twimbor_received, 32);
 AT(twimbor_received, refusal, 0, 8);
 AT(twimbor_received, is_new, 8, 1);
 AT(twimbor_received, count, 16, 8);
+AT(twimbor_received, probes, 24, 8);
 
 SIZE(twimbor_event, 16);
 AT(twimbor_event, code, 0, 1);

@@ -10,6 +10,7 @@ bool plain_is_valid(const twimbor_table *t);
 typedef struct {
     uint8_t refusal;
     bool is_new;
+    size_t probes;
 } plain_answer;
 plain_answer plain_receive(twimbor_table *t, const uint8_t *p, size_t n);
 plain_answer plain_receive_valid(twimbor_table *t, const uint8_t *p, size_t n);     /* the table passes the tests */

@@ -2,7 +2,8 @@
 //! same with `Result` and [`Refusal`](crate::Refusal).
 //!
 //! Each call answers the refusal's number, 0 if nothing is refused. Under a refusal nothing lent
-//! changes, and the values answered are zeros, but for the count of [`Received`].
+//! changes, and the values answered are zeros, but for the count of [`Received`], and its probes
+//! under 11.
 
 use crate::{Event, Head, PLACES, Plan, Report, Table};
 
@@ -46,6 +47,8 @@ pub struct Received {
     pub is_new: bool,
     /// The segments held after the call; under a refusal, as many as before.
     pub count: usize,
+    /// The segments looked at to find the report's pair: at most 8; 0 if refused before that.
+    pub probes: usize,
 }
 
 /// What [`event_at_columns`] answers.

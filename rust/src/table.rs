@@ -142,10 +142,17 @@ impl Table {
     /// Receives a packet. Refusals: 16, then 1 to 11 with 17 at the place of
     /// 7; the table stays as it was.
     pub fn receive(&mut self, packet: &[u8]) -> Result<Taken, Refusal> {
+        self.receive_counting(packet).0
+    }
+
+    /// The same as [`Table::receive`], and how many of the segments held were looked at to find the
+    /// report's pair, by halving: at most 8. It is 0 under a refusal, but not under 11, which is
+    /// found out by that search.
+    pub fn receive_counting(&mut self, packet: &[u8]) -> (Result<Taken, Refusal>, usize) {
         let received = sys::receive_columns(self.head, &mut self.keys, &mut self.heard, packet);
         self.head.count = received.count;
         let taken = if received.is_new { Taken::New } else { Taken::Known };
-        unless_refused(received.refusal as u8, taken)
+        (unless_refused(received.refusal as u8, taken), received.probes)
     }
 
     /// All events, by start, then code. Refusal: 16.

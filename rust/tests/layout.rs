@@ -58,7 +58,7 @@ fn structs_and_numbers_are_the_headers() {
     layout!(file, ReadResult as "twimbor_read_result" { report, refusal });
     layout!(file, CountResult as "twimbor_count_result" { reports, refusal });
     layout!(file, Opened as "twimbor_opened" { table, refusal });
-    layout!(file, Received as "twimbor_received" { refusal, is_new, count });
+    layout!(file, Received as "twimbor_received" { refusal, is_new, count, probes });
     layout!(file, EventResult as "twimbor_event_result" { event, refusal });
     layout!(file, Listed as "twimbor_listed" { refusal, events });
     for refusal in Refusal::ALL {

@@ -2,6 +2,7 @@
 mod lists;
 mod packets;
 mod plans;
+mod probes;
 mod show;
 mod tables;
 
@@ -9,5 +10,6 @@ fn main() {
     packets::run();
     plans::run();
     tables::run();
+    probes::run();
     lists::run();
 }

@@ -42,20 +42,20 @@ fn open_row(i: usize) {
     show::answer(o.refusal);
 }
 
-fn packet_of(r: Report) -> [u8; 16] {
+pub fn packet_of(r: Report) -> [u8; 16] {
     let mut out = [0u8; 16];
     writer::write(r, &mut out[0..16]);
     out
 }
 
 // A table after a receiving call, and the answer.
-struct After {
-    table: Table,
-    answer: Received,
+pub struct After {
+    pub table: Table,
+    pub answer: Received,
 }
 
 // The call on the columns of a copy, so that a row can start from the same table as another.
-fn receive_bytes(t: Table, b: [u8; 16]) -> After {
+pub fn receive_bytes(t: Table, b: [u8; 16]) -> After {
     let mut head = t.head;
     let mut keys = t.keys;
     let mut heard = t.heard;
@@ -72,8 +72,10 @@ fn receive_bytes(t: Table, b: [u8; 16]) -> After {
     }
 }
 
-// New, known or the refusal's number.
+// How many segments were looked at, then new, known or the refusal's number.
 fn show_answer(a: Received) {
+    show::name(b", probes");
+    show::number((a.probes % 65536) as u32);
     if a.refusal != 0 {
         show::answer((a.refusal % 256) as u8);
         return;
@@ -194,7 +196,7 @@ fn segments(t: Table, n: usize) {
 }
 
 // Reports at so many offsets, each new, from the highest to the lowest.
-fn filled(n: u32) -> Table {
+pub fn filled(n: u32) -> Table {
     let o = table::open(101, 7, 0);
     let mut t = o.table;
     let mut i = n;

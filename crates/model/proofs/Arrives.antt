@@ -146,12 +146,14 @@ module _ (t : Table) (es : List Sent) (sizes : Sizes t es) (fits : FitsTypes t e
         let r = sent-in-range t e (sizes .ranges e m) k low high in
         let q = sent-report t e (sizes .ranges e m) k low high (fits .ssrc) in
         record {
-          passes = a .reached .passes;
-          header = packet-header (reportAt (planOf t e) k) r;
-          type = ap (λ (x : Report). x .«payload_type») q ∙ sym (a .type);
-          source = ap (λ (x : Report). x .ssrc) q ∙ sym (a .source);
-          payload = packet-payload (reportAt (planOf t e) k) r;
-          near = rw heard (omega (arith, said-before t e (sizes .ranges e m) k low high, sizes .near e m));
+          searched = record {
+            passes = a .reached .passes;
+            header = packet-header (reportAt (planOf t e) k) r;
+            type = ap (λ (x : Report). x .«payload_type») q ∙ sym (a .type);
+            source = ap (λ (x : Report). x .ssrc) q ∙ sym (a .source);
+            payload = packet-payload (reportAt (planOf t e) k) r;
+            near = rw heard (omega (arith, said-before t e (sizes .ranges e m) k low high, sizes .near e m));
+          };
           room = rw heard (room-for rs u a (said t e k) (told-sent e k m low high));
         }
 

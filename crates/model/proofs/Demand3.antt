@@ -43,7 +43,8 @@ use Rattle.model.proofs.Plans.{Says, sayings-first}
 use Rattle.model.proofs.Recovered.{segmentsSent, allSent, of-all, in-all, all-rising, events-of-all, Witness, recovered}
 use Rattle.model.proofs.Sends.{plans-for, plan-ranges, sayingAt, report-is, said, said-says, said-before, sent-later}
 use Rattle.model.proofs.Arrives.{apart, ToldOf, Along, along-empty, told-sent, heard-sent, sent-fits, Outcome, outcome}
-use Rattle.model.proofs.Basics.{noSegment, Mem, mem-map, map-mem}
+use Rattle.model.specs.Search.{noSegment}
+use Rattle.model.proofs.Basics.{Mem, mem-map, map-mem}
 
 module _ (t : Table) (es : List Sent) (hs : List Handed) (d : Delivered t es hs) where
   along : Along t es (d .sizes) (d .fits) [] t

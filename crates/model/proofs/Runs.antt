@@ -38,19 +38,19 @@ use Rattle.model.proofs.Keeping.{attained-more}
 use Rattle.model.proofs.Grouping.{eventsOf-grouped}
 use Rattle.model.proofs.Packets.{read-in-range}
 use Rattle.model.proofs.Tables.{valid-if, held-taking, room, taking-valid}
-use Rattle.model.proofs.Receives.{Taken, taken-then, refused-leaves, taken-unless, takes}
+use Rattle.model.proofs.Receives.{Searched, Taken, taken-then, refused-leaves, taken-unless, takes}
 use Rattle.model.proofs.Basics.{Mem}
 
 -- ONE CALL
 
-pub heard-valid : (t : Table) (bs : List ℕ) → BytesFit bs → Taken t bs → validSegment (heardIn t bs) ≡ true
+pub heard-valid : (t : Table) (bs : List ℕ) → BytesFit bs → Searched t bs → validSegment (heardIn t bs) ≡ true
 unfolding heardIn
 heard-valid t bs f k =
     let q = read-in-range bs f (k .payload) in
     valid-if (heardIn t bs) (record { offset = k .near; code = q .0; some = q .1; duration = q .2; volume = q .3 })
 
 pub taken-valid : (t : Table) (bs : List ℕ) → valid t ≡ true → BytesFit bs → Taken t bs → valid (taking t (heardIn t bs)) ≡ true
-taken-valid t bs s f k = taking-valid t (heardIn t bs) s (heard-valid t bs f k) (room t (heardIn t bs) s (k .room))
+taken-valid t bs s f k = taking-valid t (heardIn t bs) s (heard-valid t bs f (k .searched)) (room t (heardIn t bs) s (k .room))
 
 -- what is heard depends on the table's origin alone
 pub heard-from : (t u : Table) (bs : List ℕ) → u .head .origin ≡ t .head .origin → heardIn u bs ≡ heardIn t bs
@@ -96,7 +96,7 @@ step-taken t u p rs k f e =
     rw (takes u p n) (record {
       passes = taken-valid u p (k .passes) f w;
       origin = k .origin;
-      derived = rw (← (heard-from t u p (k .origin))) (derived-taking u (heardIn u p) rs (k .passes) (heard-valid u p f w) (k .derived));
+      derived = rw (← (heard-from t u p (k .origin))) (derived-taking u (heardIn u p) rs (k .passes) (heard-valid u p f (w .searched)) (k .derived));
     })
 
 pub arrivals-refused : (u : Table) (p : List ℕ) (ps : List (List ℕ)) → refuses (receive u p .answer) ≡ true → arrivals u (p ∷ ps) ≡ arrivals (receive u p .table) ps

@@ -23,7 +23,8 @@ use Rattle.model.proofs.Packets.{packet-report}
 use Rattle.model.proofs.Cuts.{cut-place, cut-within, cut-units, later, cut-later}
 use Rattle.model.proofs.Plans.{Says, sayings-first, sayings-say, length-wire, wire-at, mem-at, marked-first}
 use Rattle.model.proofs.Recovered.{PlansFor, segmentsSent}
-use Rattle.model.proofs.Basics.{noSegment, Mem, mem-map, and-then, and-both}
+use Rattle.model.specs.Search.{noSegment}
+use Rattle.model.proofs.Basics.{Mem, mem-map, and-then, and-both}
 
 -- the ranges of a plan, one by one
 pub record PlanRanges (p : Plan) : Type 0 where

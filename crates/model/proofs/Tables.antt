@@ -19,7 +19,8 @@ use Rattle.model.specs.Table.{keyOf, heardOf, segmentAt, segmentsFrom, h
 use Rattle.model.proofs.Order.{Alike, Compared, compared, ≺-not-alike, same-then, below-cons, Rising, rises, rises-if}
 use Rattle.model.proofs.Segments.{put-rising}
 use Rattle.model.proofs.Numbers.{segment-back}
-use Rattle.model.proofs.Basics.{noSegment, Mem, and-then, and-both}
+use Rattle.model.specs.Search.{noSegment, entry}
+use Rattle.model.proofs.Basics.{Mem, and-then, and-both}
 
 or-false-then : (a b : Bool) → (a || b) ≡ false → (a ≡ false) × (b ≡ false)
 or-false-then true b e = absurd (false≢true (sym e))
@@ -55,14 +56,23 @@ module _ (keys heard : List ℕ) where
   length-from i (suc n) = ap suc (length-from (suc i) n)
 
   -- segments that stand at places i, i + 1, .. are those from place i on
-  from-places : (l : List Segment) (i : ℕ) → ((k j : ℕ) → k ≡ i + j → j < length l → segmentAt keys heard k ≡ getD l j noSegment)
+  from-places : (l : List Segment) (i : ℕ) → ((k j : ℕ) → k ≡ i + j → j < length l → segmentAt keys heard k ≡ entry l j)
       → segmentsFrom keys heard i (length l) ≡ l
   unfolding segmentsFrom
   from-places [] i h = refl
   from-places (s ∷ l) i h = λ x. h i zero (omega arith) (omega arith) x ∷ from-places l (suc i) (λ k j e b. h k (suc j) (omega arith) (omega arith)) x
 
+pub entry-from : (keys heard : List ℕ) (i n j k : ℕ) → k ≡ i + j → j < n → entry (segmentsFrom keys heard i n) j ≡ segmentAt keys heard k
+unfolding segmentsFrom
+entry-from keys heard i zero j k e h = absurd (omega arith)
+entry-from keys heard i (suc n) zero k e h = let q : k ≡ i = omega arith in rw q
+entry-from keys heard i (suc n) (suc j) k e h = entry-from keys heard (suc i) n j k (omega arith) (omega arith)
+
 pub held-length : (t : Table) → length (held t) ≡ t .head .count
 held-length t = length-from (t .keys) (t .heard) 0 (t .head .count)
+
+pub held-at : (t : Table) (i : ℕ) → i < t .head .count → entry (held t) i ≡ segmentAt (t .keys) (t .heard) i
+held-at t i h = entry-from (t .keys) (t .heard) 0 (t .head .count) i i (omega arith) h
 
 getD-mapped : {A B : Type 0} (f : A → B) (l : List A) (i : ℕ) (d : A) → getD (map f l) i (f d) ≡ f (getD l i d)
 getD-mapped f [] i d = refl
@@ -70,7 +80,7 @@ getD-mapped f (a ∷ l) zero d = refl
 getD-mapped f (a ∷ l) (suc i) d = getD-mapped f l i d
 
 -- a column that was stored has the segments' values
-in-column : (f : Segment → ℕ) (l : List Segment) (column : List ℕ) (i : ℕ) → i < length l → getD (place (map f l) column) i (f noSegment) ≡ f (getD l i noSegment)
+in-column : (f : Segment → ℕ) (l : List Segment) (column : List ℕ) (i : ℕ) → i < length l → getD (place (map f l) column) i (f noSegment) ≡ f (entry l i)
 in-column f l column i h =
     List·getD-append (map f l) (drop (length (map f l)) column) (f noSegment) i (omega (arith, length-map l f)) ∙ getD-mapped f l i noSegment
 
@@ -127,7 +137,7 @@ put-valid r (s ∷ ts) p h = go (before r s) (samePair r s) (put-valid r ts p (k
     go false true ih = and-both (merge-valid r s p (k .0)) (k .1)
     go false false ih = and-both (k .0) ih
 
-valid-at : (l : List Segment) → allValid l ≡ true → (i : ℕ) → i < length l → ValidSegment (getD l i noSegment)
+valid-at : (l : List Segment) → allValid l ≡ true → (i : ℕ) → i < length l → ValidSegment (entry l i)
 unfolding allValid
 valid-at [] v i h = absurd (omega arith)
 valid-at (s ∷ ts) v zero h = valid-then s (and-then (validSegment s) (allValid ts) v .0)
@@ -161,11 +171,11 @@ module _ (keys heard : List ℕ) where
 pub held-storing : (l : List Segment) (t : Table) → allValid l ≡ true → held (storing l t) ≡ l
 held-storing l t v = from-places (storing l t .keys) (storing l t .heard) l 0 (λ k i e h. let q : k ≡ i = omega arith in rw q (stands i h))
   where
-    stands : (i : ℕ) → i < length l → segmentAt (storing l t .keys) (storing l t .heard) i ≡ getD l i noSegment
+    stands : (i : ℕ) → i < length l → segmentAt (storing l t .keys) (storing l t .heard) i ≡ entry l i
     stands i h =
         let w = valid-at l v i h in
         rw (in-column keyOf l (t .keys) i h, in-column heardOf l (t .heard) i h)
-        (segment-back (getD l i noSegment) (omega (arith, leb-true (getD l i noSegment .code) 15 (w .code))) (omega (arith, w .duration)))
+        (segment-back (entry l i) (omega (arith, leb-true (entry l i .code) 15 (w .code))) (omega (arith, w .duration)))
 
 -- the tests, one by one
 pub record Passed (t : Table) : Type 0 where

@@ -1,7 +1,7 @@
 -- More worked examples, computed from the definitions: what no theorem speaks of in a packet's form, the order of the
 -- refusals, what a call does to the columns, and segments of two codes between one another. Beside each row stands what it
 -- must be.
-use Prim.Native.Nat.{ℕ, _+_}
+use Prim.Native.Nat.{ℕ, zero, suc, _+_, _*_}
 use mathlib.Core.Path.{_≡_, refl}
 use mathlib.Core.Bool.{Bool, true, false}
 use mathlib.Core.List.{List, [], _∷_, _++_, map}
@@ -11,12 +11,14 @@ use Rattle.model.specs.declared.Segment.{Segment}
 use Rattle.model.specs.declared.Event.{Event}
 use Rattle.model.specs.declared.Table.{Table}
 use Rattle.model.specs.declared.Received.{Received}
+use Rattle.model.specs.declared.Lookup.{Lookup}
 use Rattle.model.specs.Refusals.{Told, answered, refusedBy}
 use Rattle.model.specs.Packet.{afterHeader, payload, headerRefusal, payloadRefusal, read, packetOf}
 use Rattle.model.specs.Plan.{segment}
 use Rattle.model.specs.Segments.{rising}
+use Rattle.model.specs.Search.{middle, isSmaller, kept, searching, search}
 use Rattle.model.specs.Table.{segmentsFrom, opened, emptyTable, allValid, valid, holds, put}
-use Rattle.model.specs.Receive.{heardIn, receiveRefusal, receive}
+use Rattle.model.specs.Receive.{heardIn, refusedBefore, receiveRefusal, probes, receive}
 use Rattle.model.specs.Events.{units, loudest, lastEnded, continuesNearest, continuing, eventsFrom, eventsOf}
 
 -- PACKETS
@@ -130,7 +132,7 @@ calls =
     ∷ []
 
 pub calls-answer : map (λ row. receive (row .0 .0) (row .0 .1) .answer .refusal) calls ≡ map (λ row. row .1) calls
-unfolding packetOf receive receiveRefusal heardIn valid rising allValid segmentsFrom holds headerRefusal afterHeader payload payloadRefusal
+unfolding packetOf receive refusedBefore receiveRefusal probes heardIn valid rising allValid segmentsFrom holds headerRefusal afterHeader payload payloadRefusal
 calls-answer = refl
 
 -- THE COLUMNS
@@ -147,18 +149,100 @@ one-held = record {
 abbrev columns : List (List ℕ × (Received × (List ℕ × List ℕ)))
 columns =
     -- a new segment moves the one held up, and the place above stays
-    (at 16, (record { refusal = 0; «is_new» = true; count = 2 }, (5 ∷ 0x6405 ∷ 98 ∷ [], 0x2A_0190 ∷ 0x28_0190 ∷ 96 ∷ [])))
-    ∷ (at 117, (record { refusal = 0; «is_new» = true; count = 2 }, (0x6405 ∷ 0x6505 ∷ 98 ∷ [], 0x28_0190 ∷ 0x2A_0190 ∷ 96 ∷ [])))
+    (at 16, (record { refusal = 0; «is_new» = true; count = 2; probes = 1 }, (5 ∷ 0x6405 ∷ 98 ∷ [], 0x2A_0190 ∷ 0x28_0190 ∷ 96 ∷ [])))
+    ∷ (at 117, (record { refusal = 0; «is_new» = true; count = 2; probes = 1 }, (0x6405 ∷ 0x6505 ∷ 98 ∷ [], 0x28_0190 ∷ 0x2A_0190 ∷ 96 ∷ [])))
     -- a known one
-    ∷ (at 116, (record { refusal = 0; «is_new» = false; count = 1 }, (0x6405 ∷ 99 ∷ 98 ∷ [], 0x2A_0190 ∷ 97 ∷ 96 ∷ [])))
+    ∷ (at 116, (record { refusal = 0; «is_new» = false; count = 1; probes = 1 }, (0x6405 ∷ 99 ∷ 98 ∷ [], 0x2A_0190 ∷ 97 ∷ 96 ∷ [])))
     -- a refusal leaves all places
-    ∷ (at 15, (record { refusal = 10; «is_new» = false; count = 1 }, (0x6405 ∷ 99 ∷ 98 ∷ [], 0x28_0190 ∷ 97 ∷ 96 ∷ [])))
+    ∷ (at 15, (record { refusal = 10; «is_new» = false; count = 1; probes = 0 }, (0x6405 ∷ 99 ∷ 98 ∷ [], 0x28_0190 ∷ 97 ∷ 96 ∷ [])))
     ∷ []
 
 pub columns-after : map (λ row. (receive one-held (row .0) .answer, (receive one-held (row .0) .table .keys, receive one-held (row .0) .table .heard))) columns
     ≡ map (λ row. row .1) columns
-unfolding packetOf receive receiveRefusal heardIn valid rising allValid segmentsFrom holds put headerRefusal afterHeader payload payloadRefusal
+unfolding packetOf receive refusedBefore receiveRefusal probes heardIn valid rising allValid segmentsFrom holds put headerRefusal afterHeader payload payloadRefusal middle isSmaller kept searching
 columns-after = refl
+
+-- THE SEARCH
+
+-- the first n of eight segments, at offsets 10, 20, .. 80
+abbrev entries : ℕ → List Segment
+entries n = take n (map (λ i. segment (10 * i) 5 400 10 false true) (1 ∷ 2 ∷ 3 ∷ 4 ∷ 5 ∷ 6 ∷ 7 ∷ 8 ∷ []))
+
+abbrev found : ℕ → ℕ → Lookup
+found place probes = record { place = place; probes = probes }
+
+-- n entries, the offset looked for, and where the search ends after how many looks
+abbrev searches : List (ℕ × (ℕ × Lookup))
+searches =
+    -- none held
+    (0, (1, found 0 0))
+    ∷ (0, (9, found 0 0))
+    -- one
+    ∷ (1, (9, found 0 1))
+    ∷ (1, (10, found 0 1))
+    ∷ (1, (11, found 1 1))
+    -- two
+    ∷ (2, (9, found 0 2))
+    ∷ (2, (10, found 0 2))
+    ∷ (2, (20, found 1 2))
+    ∷ (2, (21, found 2 1))
+    -- three
+    ∷ (3, (9, found 0 2))
+    ∷ (3, (10, found 0 2))
+    ∷ (3, (20, found 1 2))
+    ∷ (3, (30, found 2 2))
+    ∷ (3, (31, found 3 2))
+    -- eight: one look more in the first two places
+    ∷ (8, (9, found 0 4))
+    ∷ (8, (10, found 0 4))
+    ∷ (8, (11, found 1 4))
+    ∷ (8, (20, found 1 4))
+    ∷ (8, (21, found 2 3))
+    ∷ (8, (40, found 3 3))
+    ∷ (8, (50, found 4 3))
+    ∷ (8, (80, found 7 3))
+    ∷ (8, (81, found 8 3))
+    ∷ []
+
+pub searches-end : map (λ row. search (segment (row .1 .0) 5 1 0 false false) (entries (row .0))) searches ≡ map (λ row. row .1 .1) searches
+unfolding middle isSmaller kept searching
+searches-end = refl
+
+-- by code where the offset is the same
+pub searches-by-code : map (λ code. search (segment 20 code 1 0 false false) (entries 3)) (4 ∷ 5 ∷ 6 ∷ []) ≡ found 1 2 ∷ found 1 2 ∷ found 2 2 ∷ []
+unfolding middle isSmaller kept searching
+searches-by-code = refl
+
+-- A FULL TABLE
+
+-- n numbers, k, k + 512, ..
+abbrev keys-from : ℕ → ℕ → List ℕ
+keys-from k zero = []
+keys-from k (suc n) = k ∷ keys-from (k + 512) n
+
+-- 128 segments of code 5, at offsets 1, 3, .. 255
+abbrev full : Table
+full = record {
+  head = record { «payload_type» = 101; ssrc = 7; origin = 16; count = 128 };
+  keys = keys-from 261 128;
+  heard = replicate 128 0x28_0190;
+}
+
+-- 11 hands back the entries looked at, and so does a report of a segment that is held
+abbrev full-calls : List (List ℕ × Received)
+full-calls =
+    (at 16, record { refusal = 11; «is_new» = false; count = 128; probes = 8 })  -- before all
+    ∷ (at 17, record { refusal = 0; «is_new» = false; count = 128; probes = 8 })  -- the first
+    ∷ (at 18, record { refusal = 11; «is_new» = false; count = 128; probes = 8 })  -- in the second place
+    ∷ (at 20, record { refusal = 11; «is_new» = false; count = 128; probes = 7 })  -- in the third
+    ∷ (at 271, record { refusal = 0; «is_new» = false; count = 128; probes = 7 })  -- the last
+    ∷ (at 272, record { refusal = 11; «is_new» = false; count = 128; probes = 7 })  -- after all
+    ∷ (at 15, record { refusal = 10; «is_new» = false; count = 128; probes = 0 })
+    ∷ []
+
+pub full-answers : map (λ row. receive full (row .0) .answer) full-calls ≡ map (λ row. row .1) full-calls
+unfolding packetOf receive refusedBefore receiveRefusal probes heardIn valid rising allValid segmentsFrom holds put headerRefusal afterHeader payload payloadRefusal middle isSmaller kept searching
+full-answers = refl
 
 -- EVENTS
 

@@ -103,13 +103,21 @@ pub struct Opened {
     pub refusal: u8,
 }
 
+// Where the search for a pair among the segments held ends, and how many of them it looked at.
+pub struct Lookup {
+    pub place: usize,
+    pub probes: usize,
+}
+
 // What a receiving call answers beside the columns lent to it: refusal 0 and whether the segment is new, or the refusal's
-// number; and how many segments are held after it. Why the refusal has 64 bits stands in docs/DECISIONS.md.
+// number; how many segments are held after it; and how many the search for the report's pair looked at, 0 if there was none.
+// Why the refusal has 64 bits stands in docs/DECISIONS.md.
 #[repr(C)]
 pub struct Received {
     pub refusal: u64,
     pub is_new: bool,
     pub count: usize,
+    pub probes: usize,
 }
 
 // What the list call answers beside the lent records: refusal 0 and the number of events, or the refusal's number and 0.

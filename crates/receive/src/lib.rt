@@ -1,4 +1,5 @@
 // The receiving call, in place on a table whose columns are lent.
+ghost use Prim.Native.Nat.{_≤_};
 ghost use mathlib.Core.Path.{_≡_};
 ghost use mathlib.Core.Bool.{true};
 ghost use Rattle.model.specs.Table.{tableOf, holding, valid};
@@ -60,6 +61,7 @@ pub fn receive(head: Head, keys: &mut [u64; 128], heard: &mut [u32; 128], packet
     ensures { λ r. ⌜ r ≡ receive (tableOf head (now (keys .entry)) (now (heard .entry))) (now (packet .entry)) .answer ⌝ }
     ensures { λ r. ⌜ tableOf (holding (r .count) head) (now (keys .exit)) (now (heard .exit))
         ≡ receive (tableOf head (now (keys .entry)) (now (heard .entry))) (now (packet .entry)) .table ⌝ }
+    ensures { λ r. ⌜ r .probes ≤ 8 ⌝ }
 {
     if !valid::is_valid(head, keys, heard) {
         return refused(model::INVALID_TABLE, head.count);

@@ -1,10 +1,11 @@
 -- The order of segments as an order of their keys, and the numbers of a segment within its ranges or of two reports together.
 use Prim.Native.Nat.{ℕ, _+_, _*_, _/_, _%_, _≤_, _<_, min, max}
-use mathlib.Core.Path.{_≡_, refl, sym}
+use mathlib.Core.Path.{_≡_, refl, sym, _∙_}
 use mathlib.Core.Bool.{Bool, true, false, _&&_, _||_}
 use native.Mathlib.Omega.{arith}
 use borrow.Author.Needs.{needs}
 use borrow.Author.Tests.{lt-ltb, le-ltb, ltb-true, ltb-false, eqb-true, eqb-false}
+use lib.Bits.{bitOr, or-step, or-zero-l, or-lt}
 use lib.Dec.{ltb, eqb}
 use mir.Val.{Fits}
 use mir.Syntax.{w8, w32}
@@ -45,19 +46,37 @@ bit-or false false = refl
 pub longest-small : (d a b : ℕ) → d ≡ max (a % 0x1_0000) (b % 0x1_0000) → d ≤ 65535
 longest-small d a b e = omega arith
 
-pub one-bit : (d a b : ℕ) → d ≡ max (a % 2) (b % 2) → d ≤ 1
-one-bit d a b e = omega arith
+-- the flags of both are E of either and M of either
+flags-are : (told held : ℕ) → bitOr (told / 0x1_0000 % 4) (held / 0x1_0000 % 4)
+    ≡ max (told / 0x1_0000 % 2) (held / 0x1_0000 % 2) + 2 * max (told / 0x2_0000 % 2) (held / 0x2_0000 % 2)
+flags-are told held = two-bits (told / 0x1_0000 % 4) (held / 0x1_0000 % 4) (omega arith) (omega arith) ∙ rw (low told, low held, high told, high held) (omega arith)
+  where
+    two-bits : (a b : ℕ) → a < 4 → b < 4 → bitOr a b ≡ max (a / 2 % 2) (b / 2 % 2) * 2 + max (a % 2) (b % 2)
+    two-bits a b h k =
+        let p : a / 2 / 2 ≡ 0 = omega arith in
+        let q : b / 2 / 2 ≡ 0 = omega arith in
+        let e : bitOr (a / 2) (b / 2) ≡ max (a / 2 % 2) (b / 2 % 2) = or-step (a / 2) (b / 2) ∙ rw (p, q, or-zero-l 0) (omega arith) in
+        or-step a b ∙ rw e
 
-pub merged-is : (told held d e m v : ℕ) → d ≡ max (told % 0x1_0000) (held % 0x1_0000) → e ≡ max (told / 0x1_0000 % 2) (held / 0x1_0000 % 2)
-    → m ≡ max (told / 0x2_0000 % 2) (held / 0x2_0000 % 2) → v ≡ min (told / 0x4_0000) (held / 0x4_0000)
-    → (r : ℕ) → r ≡ d + 0x1_0000 * (e + 2 * (m + 2 * v)) → r ≡ heardOf (merge (segmentOf 0 told) (segmentOf 0 held))
-merged-is told held d e m v p q u w r is =
+    low : (x : ℕ) → x / 0x1_0000 % 4 % 2 ≡ x / 0x1_0000 % 2
+    low x = omega arith
+
+    high : (x : ℕ) → x / 0x1_0000 % 4 / 2 % 2 ≡ x / 0x2_0000 % 2
+    high x = omega arith
+
+pub two-flags : (a b : ℕ) → a ≤ 3 → b ≤ 3 → bitOr a b ≤ 3
+two-flags a b h k = omega (arith, or-lt 2 a b (omega arith) (omega arith))
+
+pub merged-is : (told held d f v : ℕ) → d ≡ max (told % 0x1_0000) (held % 0x1_0000) → f ≡ bitOr (told / 0x1_0000 % 4) (held / 0x1_0000 % 4)
+    → v ≡ min (told / 0x4_0000) (held / 0x4_0000)
+    → (r : ℕ) → r ≡ d + 0x1_0000 * (f + 4 * v) → r ≡ heardOf (merge (segmentOf 0 told) (segmentOf 0 held))
+merged-is told held d f v p q w r is =
     rw (
       is,
       p,
       q,
-      u,
       w,
+      flags-are told held,
       bit-or (eqb (told / 0x1_0000 % 2) 1) (eqb (held / 0x1_0000 % 2) 1),
       bit-or (eqb (told / 0x2_0000 % 2) 1) (eqb (held / 0x2_0000 % 2) 1),
       bit-of-test (told / 0x1_0000 % 2) (omega arith),
@@ -65,5 +84,6 @@ merged-is told held d e m v p q u w r is =
       bit-of-test (told / 0x2_0000 % 2) (omega arith),
       bit-of-test (held / 0x2_0000 % 2) (omega arith),
     )
+    (omega arith)
 
-pub ruleset numbering = (needs, longest-small, one-bit, merged-is)
+pub ruleset numbering = (needs, longest-small, two-flags, merged-is)

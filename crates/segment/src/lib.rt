@@ -2,6 +2,7 @@
 ghost use mathlib.Core.Path.{_≡_};
 ghost use mathlib.Core.Bool.{true};
 ghost use Prim.Native.Nat.{_+_, _*_, _≤_, min, max};
+ghost use lib.Bits.{bitOr};
 ghost use Rattle.model.specs.Packet.{bit};
 ghost use Rattle.model.specs.Table.{segmentOf, validSegment};
 ghost use Rattle.segment.specs.Merged.{mergedHeard};
@@ -24,22 +25,21 @@ fn bit(b: bool) -> u32
     0
 }
 
-// Duration, E, M and volume in one number; the only place that puts them together.
-fn joined(duration: u32, ended: u32, marked: u32, volume: u32) -> u32
+// Duration, the flags E and M, and volume in one number; the only place that puts them together.
+fn joined(duration: u32, flags: u32, volume: u32) -> u32
     requires { ⌜ duration ≤ 65535 ⌝ }
-    requires { ⌜ ended ≤ 1 ⌝ }
-    requires { ⌜ marked ≤ 1 ⌝ }
+    requires { ⌜ flags ≤ 3 ⌝ }
     requires { ⌜ volume ≤ 16383 ⌝ }
-    ensures { λ r. ⌜ r ≡ duration + 0x1_0000 * (ended + 2 * (marked + 2 * volume)) ⌝ }
+    ensures { λ r. ⌜ r ≡ duration + 0x1_0000 * (flags + 4 * volume) ⌝ }
 {
-    duration + 0x1_0000 * (ended + 2 * (marked + 2 * volume))
+    duration + 0x1_0000 * (flags + 4 * volume)
 }
 
 // What one report says of its segment.
 pub fn heard_of(duration: u16, volume: u8, ended: bool, marked: bool) -> u32
     ensures { λ r. ⌜ r ≡ duration + 0x1_0000 * (bit ended + 2 * (bit marked + 2 * volume)) ⌝ }
 {
-    joined(duration as u32, bit(ended), bit(marked), volume as u32)
+    joined(duration as u32, bit(ended) + 2 * bit(marked), volume as u32)
 }
 
 fn larger(a: u32, b: u32) -> u32
@@ -61,15 +61,24 @@ pub fn smaller(a: u32, b: u32) -> u32
     a
 }
 
+// The flags that one of two has.
+fn either(a: u32, b: u32) -> u32
+    requires { ⌜ a ≤ 3 ⌝ }
+    requires { ⌜ b ≤ 3 ⌝ }
+    ensures { λ r. ⌜ r ≡ bitOr a b ⌝ }
+    ensures { λ r. ⌜ r ≤ 3 ⌝ }
+{
+    a | b
+}
+
 // What two reports of one segment say together: the larger duration, E and M if either has it, the smaller volume number.
 pub fn merged(told: u32, held: u32) -> u32
     ensures { λ r. ⌜ r ≡ mergedHeard told held ⌝ }
 {
     let duration = larger(told % 0x1_0000, held % 0x1_0000);
-    let ended = larger(told / 0x1_0000 % 2, held / 0x1_0000 % 2);
-    let marked = larger(told / 0x2_0000 % 2, held / 0x2_0000 % 2);
+    let flags = either(told / 0x1_0000 % 4, held / 0x1_0000 % 4);
     let volume = smaller(told / 0x4_0000, held / 0x4_0000);
-    joined(duration, ended, marked, volume)
+    joined(duration, flags, volume)
 }
 
 // The segment of two numbers, for one within its ranges.

@@ -1,45 +1,35 @@
 -- The columns of a table and the segments held: the keys of what is held, and each column after a segment is changed or put in.
 use Prim.Native.Nat.{ℕ, zero, suc, _+_, _≤_, _<_}
 use mathlib.Core.Path.{_≡_, refl, sym, _∙_, ap}
-use mathlib.Core.Bool.{true}
 use mathlib.Core.List.{List, [], _∷_, _++_, map}
 use native.Mathlib.Omega.{arith}
 use lib.ListN.{length, getD, set, take, drop, take-append-drop, length-set}
 use lib.Seq.{set-append-left, drop-cons, length-take-le}
 use Rattle.model.specs.declared.Segment.{Segment}
 use Rattle.model.specs.declared.Table.{Table}
-use Rattle.model.specs.Table.{keyOf, segmentAt, segmentsFrom, held, place, valid}
-use Rattle.model.proofs.Order.{_≺_}
+use Rattle.model.specs.Search.{entry}
+use Rattle.model.specs.Table.{keyOf, segmentOf, segmentAt, segmentsFrom, held, place}
+use Rattle.model.proofs.Order.{Alike}
 use Rattle.model.proofs.Numbers.{key-back}
-use Rattle.model.proofs.Tables.{tests-passed, held-length}
-use Rattle.table.specs.Columns.{Ordered, insertedAt}
-use Rattle.table.proofs.Puts.{at, at-rises, key-if}
+use Rattle.model.proofs.Tables.{held-at}
+use Rattle.table.specs.Columns.{insertedAt}
 
 -- THE KEYS OF WHAT IS HELD
 
-at-from : (keys heard : List ℕ) (i n j k : ℕ) → k ≡ i + j → j < n → at (segmentsFrom keys heard i n) j ≡ segmentAt keys heard k
-unfolding segmentsFrom
-at-from keys heard i zero j k e h = absurd (omega arith)
-at-from keys heard i (suc n) zero k e h = let q : k ≡ i = omega arith in rw q
-at-from keys heard i (suc n) (suc j) k e h = at-from keys heard (suc i) n j k (omega arith) (omega arith)
-
 module _ (t : Table) (i : ℕ) (h : i < t .head .count) where
-  pub held-at : at (held t) i ≡ segmentAt (t .keys) (t .heard) i
-  held-at = at-from (t .keys) (t .heard) 0 (t .head .count) i i (omega arith) h
+  -- the pair at place i is the one of key k exactly if k is its key
+  module _ (k w : ℕ) where
+    key-at : keyOf (entry (held t) i) ≡ getD (t .keys) i 0
+    key-at = ap keyOf (held-at t i h) ∙ key-back (getD (t .keys) i 0) (getD (t .heard) i 0)
 
-  pub key-at : keyOf (at (held t) i) ≡ getD (t .keys) i 0
-  key-at = ap keyOf held-at ∙ key-back (getD (t .keys) i 0) (getD (t .heard) i 0)
+    code-at : entry (held t) i .code < 256
+    code-at = rw (held-at t i h) (omega arith)
 
-  pub code-at : at (held t) i .code < 256
-  code-at = rw held-at (omega arith)
+    pub key-alike : getD (t .keys) i 0 ≡ k → Alike (segmentOf k w) (entry (held t) i)
+    key-alike e = record { offset = omega (arith, key-at, code-at); code = omega (arith, key-at, code-at) }
 
-pub ordered : (t : Table) → valid t ≡ true → Ordered (t .keys) (t .head .count)
-ordered t v = record {
-  rise = λ i j h l.
-      let l′ : i < t .head .count = omega arith in
-      let a : at (held t) i ≺ at (held t) j = at-rises (held t) (tests-passed t v .rises) i j h (omega (arith, held-length t)) in
-      rw (key-at t i l′, key-at t j l) at (key-if (at (held t) i) (at (held t) j) (code-at t i l′) (code-at t j l) a);
-}
+    pub alike-key : Alike (segmentOf k w) (entry (held t) i) → getD (t .keys) i 0 ≡ k
+    alike-key a = omega (arith, key-at, key-back k w)
 
 -- ONE COLUMN
 

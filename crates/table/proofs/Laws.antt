@@ -9,7 +9,8 @@ use borrow.Author.Needs.{needs}
 use borrow.Author.Tests.{lt-ltb, le-ltb}
 use Rattle.model.specs.declared.Table.{Table}
 use Rattle.model.specs.Table.{emptyTable, opened}
-use Rattle.table.proofs.Halving.{search-starts, search-ends}
+use Rattle.table.proofs.Halving.{search-starts, search-ends, search-up, search-down}
+use Rattle.table.proofs.Takes.{count-within, merges-within, known, full, inserts-within, new}
 use Rattle.table.proofs.Shifts.{opening-starts, opening-goes-on, key-put-in, told-put-in, stores, stored-length}
 
 module _ (type ssrc origin : ℕ) (t : Table) where
@@ -38,6 +39,10 @@ pub ruleset receiving = (
   stored-length,
   search-starts,
   search-ends,
+  search-up,
+  search-down,
   not-there,
   there-if,
 )
+
+pub ruleset taking = (needs, count-within, merges-within, known, full, inserts-within, new)

@@ -1,6 +1,5 @@
+pub mod Columns
 pub mod Halving
 pub mod Shifts
-pub mod Puts
-pub mod Columns
 pub mod Takes
 pub mod Laws

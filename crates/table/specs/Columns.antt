@@ -1,25 +1,31 @@
 -- What the table's functions make of its columns.
-use Prim.Native.Nat.{ℕ, _+_, _≤_, _<_}
-use mathlib.Core.Bool.{cond}
+use Prim.Native.Nat.{ℕ, _+_}
+use mathlib.Core.Path.{_≡_}
+use mathlib.Core.Bool.{cond, _&&_}
 use mathlib.Core.List.{List, _∷_, _++_}
+use lib.Dec.{ltb, eqb}
 use lib.ListN.{getD, take, drop}
 use Rattle.model.specs.declared.Segment.{Segment}
 use Rattle.model.specs.declared.Table.{Table}
+use Rattle.model.specs.declared.Head.{Head}
+use Rattle.model.specs.declared.Lookup.{Lookup}
+use Rattle.model.specs.declared.Received.{Received}
+use Rattle.table.specs.declared.places.Sought.{Sought}
 use Rattle.model.specs.Refusals.{tableFull}
-use Rattle.model.specs.Table.{noRoom}
+use Rattle.model.specs.Search.{search}
+use Rattle.model.specs.Table.{segmentOf, segmentsFrom, held, tableOf, holding, noRoom}
 use Rattle.model.specs.Receive.{Receiving, refusing, taken}
 
 -- THE SEARCH
 
--- the first n keys rise
-pub record Ordered (keys : List ℕ) (n : ℕ) : Type 0 where
-  pub rise : (i j : ℕ) → i < j → j < n → getD keys i 0 < getD keys j 0
+-- s is what the search for key k finds among the segments of the first n keys, whatever was heard of them
+pub record Finds (keys : List ℕ) (n k : ℕ) (s : Lookup) : Type 0 where
+  pub is : (heard : List ℕ) (told : ℕ) → s ≡ search (segmentOf k told) (segmentsFrom keys heard 0 n)
 
--- of the first n keys, those before place p are below k, and the others are not
-pub record Parts (keys : List ℕ) (n k p : ℕ) : Type 0 where
-  pub within : p ≤ n
-  pub below : (i : ℕ) → i < p → getD keys i 0 < k
-  pub above : (i : ℕ) → p ≤ i → i < n → k ≤ getD keys i 0
+-- and whether key k stands at the place found
+pub record Seeks (keys : List ℕ) (n k : ℕ) (s : Sought) : Type 0 where
+  pub found : Finds keys n k (record { place = s .place; probes = s .probes })
+  pub there : s .held ≡ (ltb (s .place) n && eqb (getD keys (s .place) 0) k)
 
 -- A REPORT TAKEN
 
@@ -28,6 +34,11 @@ pub record Parts (keys : List ℕ) (n k p : ℕ) : Type 0 where
 unfoldable pub insertedAt : ℕ → ℕ → ℕ → List ℕ → List ℕ
 insertedAt i x n l = (take i (take n l) ++ (x ∷ drop i (take n l))) ++ drop (n + 1) l
 
--- the last step of receiving: a report that nothing before the table refuses
+-- the last step of receiving: a report that nothing refuses before the search
 unfoldable pub takenInto : Table → Segment → Receiving
-takenInto t r = cond (noRoom t r) (refusing tableFull t) (taken t r)
+takenInto t r = cond (noRoom t r) (refusing tableFull t (search r (held t) .probes)) (taken t r (search r (held t) .probes))
+
+-- a head h, columns and a segment's two numbers k and w: what the call answers, and the columns after it
+pub record Takes (h : Head) (keys heard : List ℕ) (k w : ℕ) (a : Received) (keys′ heard′ : List ℕ) : Type 0 where
+  pub answer : a ≡ takenInto (tableOf h keys heard) (segmentOf k w) .answer
+  pub table : tableOf (holding (a .count) h) keys′ heard′ ≡ takenInto (tableOf h keys heard) (segmentOf k w) .table

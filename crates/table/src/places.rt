@@ -1,32 +1,52 @@
 // The place of a key among those held.
-ghost use Prim.Native.Nat.{_≤_};
+ghost use Prim.Native.Nat.{_+_, _/_, _≤_};
 ghost use mathlib.Core.Path.{_≡_};
 ghost use mathlib.Core.Bool.{_&&_};
 ghost use lib.Dec.{ltb, eqb};
 ghost use lib.ListN.{length, getD};
-ghost use Rattle.table.specs.Columns.{Ordered, Parts};
+ghost use Rattle.table.specs.Columns.{Finds, Seeks};
+use model::Lookup;
 
-// How many of the first n keys are below the one wanted, found by halving.
-pub(crate) fn find(keys: &[u64], n: usize, wanted: u64) -> usize
+// Where a key stands or belongs, how many keys were looked at to find that, and whether it stands there.
+pub struct Sought {
+    pub place: usize,
+    pub probes: usize,
+    pub held: bool,
+}
+
+// The middle of the places from `low` up to the one before `high`, rounded down.
+fn middle(low: usize, high: usize) -> usize
+    requires { ⌜ low ≤ high ⌝ }
+    ensures { λ r. ⌜ r ≡ (low + high) / 2 ⌝ }
+{
+    low + (high - low) / 2
+}
+
+// Where the wanted key stands or belongs among the first n, found by halving, and how many keys were looked at.
+fn find(keys: &[u64], n: usize, wanted: u64) -> Lookup
     requires { ⌜ n ≤ length (now keys) ⌝ }
-    requires { ⌜ Ordered (now keys) n ⌝ }
-    ensures { λ r. ⌜ Parts (now (keys .entry)) n wanted r ⌝ }
+    ensures { λ r. ⌜ Finds (now (keys .entry)) n wanted r ⌝ }
 {
     let mut low = 0;
     let mut high = n;
+    let mut probes = 0;
     while low < high {
-        let middle = low + (high - low) / 2;
-        if keys[middle] < wanted {
-            low = middle + 1;
+        let m = middle(low, high);
+        probes += 1;
+        if keys[m] < wanted {
+            low = m + 1;
         } else {
-            high = middle;
+            high = m;
         }
     }
-    low
+    Lookup {
+        place: low,
+        probes: probes,
+    }
 }
 
 // Whether the key at place i of the first n is the one wanted.
-pub(crate) fn stands_at(keys: &[u64], n: usize, i: usize, wanted: u64) -> bool
+fn stands_at(keys: &[u64], n: usize, i: usize, wanted: u64) -> bool
     requires { ⌜ n ≤ length (now keys) ⌝ }
     ensures { λ r. ⌜ r ≡ (ltb i n && eqb (getD (now (keys .entry)) i 0) wanted) ⌝ }
 {
@@ -34,4 +54,17 @@ pub(crate) fn stands_at(keys: &[u64], n: usize, i: usize, wanted: u64) -> bool
         return false;
     }
     keys[i] == wanted
+}
+
+// Looks a key up among the first n.
+pub(crate) fn seek(keys: &[u64], n: usize, wanted: u64) -> Sought
+    requires { ⌜ n ≤ length (now keys) ⌝ }
+    ensures { λ r. ⌜ Seeks (now (keys .entry)) n wanted r ⌝ }
+{
+    let found = find(keys, n, wanted);
+    Sought {
+        place: found.place,
+        probes: found.probes,
+        held: stands_at(keys, n, found.place, wanted),
+    }
 }

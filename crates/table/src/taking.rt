@@ -3,25 +3,32 @@ ghost use mathlib.Core.Path.{_≡_};
 ghost use mathlib.Core.Bool.{true};
 ghost use Prim.Native.Nat.{_≤_, _<_};
 ghost use lib.ListN.{length, getD, set};
-ghost use Rattle.model.specs.Table.{tableOf, holding, valid, segmentOf};
+ghost use Rattle.model.specs.Table.{tableOf, valid};
 ghost use Rattle.model.specs.Receive.{refusedWith};
 ghost use Rattle.segment.specs.Merged.{mergedHeard};
-ghost use Rattle.table.specs.Columns.{insertedAt, takenInto};
-use super::places::find;
-use super::places::stands_at;
+ghost use Rattle.table.specs.Columns.{insertedAt, Takes};
+use super::places::seek;
 use model::Head;
 use model::Received;
 use segment::merged;
 
-// What a receiving call answers that refuses, with as many segments held as before.
-pub fn refused(refusal: u8, count: usize) -> Received
-    ensures { λ r. ⌜ r ≡ refusedWith refusal count ⌝ }
+// What a receiving call answers.
+fn answer(refusal: u8, is_new: bool, count: usize, probes: usize) -> Received
+    ensures { λ r. ⌜ r ≡ record { refusal = refusal; «is_new» = «is_new»; count = count; probes = probes } ⌝ }
 {
     Received {
         refusal: refusal as u64,
-        is_new: false,
+        is_new: is_new,
         count: count,
+        probes: probes,
     }
+}
+
+// What it answers when it refuses before anything is looked up, with as many segments held as before.
+pub fn refused(refusal: u8, count: usize) -> Received
+    ensures { λ r. ⌜ r ≡ refusedWith refusal count 0 ⌝ }
+{
+    answer(refusal, false, count, 0)
 }
 
 // Puts a segment's two numbers in at place i of the n held: later ones move up by one place, the places above stay.
@@ -60,27 +67,17 @@ pub fn take(
     told: u32,
 ) -> Received
     requires { ⌜ valid (tableOf head (now keys) (now heard)) ≡ true ⌝ }
-    ensures { λ r. ⌜ r ≡ takenInto (tableOf head (now (keys .entry)) (now (heard .entry))) (segmentOf key told) .answer ⌝ }
-    ensures { λ r. ⌜ tableOf (holding (r .count) head) (now (keys .exit)) (now (heard .exit))
-        ≡ takenInto (tableOf head (now (keys .entry)) (now (heard .entry))) (segmentOf key told) .table ⌝ }
+    ensures { λ r. ⌜ Takes head (now (keys .entry)) (now (heard .entry)) key told r (now (keys .exit)) (now (heard .exit)) ⌝ }
 {
     let n = head.count;
-    let i = find(keys, n, key);
-    if stands_at(keys, n, i, key) {
-        merge_at(heard, i, told);
-        return Received {
-            refusal: 0,
-            is_new: false,
-            count: n,
-        };
+    let sought = seek(keys, n, key);
+    if sought.held {
+        merge_at(heard, sought.place, told);
+        return answer(0, false, n, sought.probes);
     }
-    if n == 128 {
-        return refused(model::TABLE_FULL, n);
+    if 128 <= n {
+        return answer(model::TABLE_FULL, false, n, sought.probes);
     }
-    insert(keys, heard, n, i, key, told);
-    Received {
-        refusal: 0,
-        is_new: true,
-        count: n + 1,
-    }
+    insert(keys, heard, n, sought.place, key, told);
+    answer(0, true, n + 1, sought.probes)
 }

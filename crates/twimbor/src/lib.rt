@@ -1,5 +1,6 @@
 // What C and Rust link: the library's calls, with structs that hold a number in place of enums. A slice crosses as a pointer
 // and a length. Every function checks its own input; refusal 0 means that nothing was refused.
+ghost use Prim.Native.Nat.{_≤_};
 ghost use mathlib.Core.Path.{_≡_};
 ghost use Rattle.model.specs.Refusals.{noReport, noEvent};
 ghost use Rattle.model.specs.Packet.{read, write};
@@ -164,6 +165,7 @@ pub extern "C" fn twimbor_receive_columns(
     ensures { λ r. ⌜ r ≡ receive (tableOf head (now (keys .entry)) (now (heard .entry))) (now (packet .entry)) .answer ⌝ }
     ensures { λ r. ⌜ tableOf (holding (r .count) head) (now (keys .exit)) (now (heard .exit))
         ≡ receive (tableOf head (now (keys .entry)) (now (heard .entry))) (now (packet .entry)) .table ⌝ }
+    ensures { λ r. ⌜ r .probes ≤ 8 ⌝ }
 {
     receive::receive(head, keys, heard, packet)
 }

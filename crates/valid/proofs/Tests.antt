@@ -4,18 +4,19 @@ use mathlib.Core.Path.{_≡_, refl, sym, _∙_}
 use mathlib.Core.Bool.{Bool, true, false, not, and-false}
 use mathlib.Core.List.{List}
 use native.Mathlib.Omega.{arith}
-use borrow.Author.Tests.{lt-ltb, le-leb, lt-leb, leb-true, not-true, not-false}
+use borrow.Author.Tests.{lt-ltb, ltb-true, le-leb, lt-leb, leb-true, not-true, not-false}
 use lib.ListN.{getD}
 use Rattle.model.specs.declared.Head.{Head}
 use Rattle.model.specs.declared.Table.{Table}
 use Rattle.model.specs.Segments.{before, rising}
-use Rattle.model.specs.Table.{segmentAt, held, tableOf, validSegment, allValid, valid}
+use Rattle.model.specs.Table.{keyOf, segmentAt, held, tableOf, validSegment, allValid, valid}
 use Rattle.model.proofs.Basics.{and-both}
+use Rattle.model.proofs.Order.{_≺_, before-if}
 use Rattle.model.proofs.Numbers.{key-back}
-use Rattle.model.proofs.Tables.{ValidSegment, valid-then, valid-if, tests-passed, valid-from, all-valid-from, rising-from}
+use Rattle.model.proofs.Places.{entries-rise}
+use Rattle.model.proofs.Tables.{ValidSegment, valid-then, valid-if, tests-passed, held-length, held-at, valid-from, all-valid-from, rising-from}
 use Rattle.valid.specs.Passes.{KeysPass, HeardPass, Tells}
 use Rattle.segment.proofs.Keys.{before-key}
-use Rattle.table.proofs.Columns.{ordered}
 
 pub too-many : (t : Table) → 128 < t .head .count → false ≡ valid t
 unfolding valid
@@ -39,8 +40,17 @@ module _ (h : Head) (keys heard : List ℕ) where
     valid-keys = record {
       near = λ i l. omega (arith, at-place i l .offset);
       coded = λ i l. leb-true (getD keys i 0 % 256) 15 (at-place i l .code);
-      rise = λ i l. ordered table v .rise i (i + 1) (omega arith) l;
+      rise = λ i l. rw (key-back (getD keys i 0) (getD heard i 0), key-back (getD keys (i + 1) 0) (getD heard (i + 1) 0)) at (keys-rise i l);
     }
+      where
+        rises-there : (i : ℕ) → i + 1 < h .count → segmentAt keys heard i ≺ segmentAt keys heard (i + 1)
+        rises-there i l =
+            rw (held-at table i (omega arith), held-at table (i + 1) l) at
+            (entries-rise (held table) (tests-passed table v .rises) i (i + 1) (omega arith) (omega (arith, held-length table)))
+
+        keys-rise : (i : ℕ) → i + 1 < h .count → keyOf (segmentAt keys heard i) < keyOf (segmentAt keys heard (i + 1))
+        keys-rise i l =
+            ltb-true _ _ (sym (before-key (segmentAt keys heard i) (segmentAt keys heard (i + 1)) (omega arith) (omega arith)) ∙ before-if (rises-there i l))
 
     valid-heard : HeardPass heard (h .count)
     valid-heard = record { long = λ i l. at-place i l .some; loud = λ i l. omega (arith, at-place i l .volume) }

@@ -1,5 +1,6 @@
 //! The library compared with documents 01 and 02, written again from their text alone (`paper`), on
-//! random inputs: each answer, table field, place, and lent byte and record, also under a refusal.
+//! random inputs, and in `probes` on every place of every number held: each answer, table field,
+//! place, and lent byte and record, also under a refusal.
 
 mod both;
 mod lists;
@@ -8,6 +9,7 @@ mod order;
 mod packets;
 mod paper;
 mod plans;
+mod probes;
 mod random;
 mod runs;
 mod tables;

@@ -18,20 +18,29 @@ const RECEIVED: usize = 200_000;
 
 /// Receives with the library and on paper; the tables go on as each leaves its own.
 pub fn receive(both: &mut Both, packet: &[u8]) -> Result<Taken, u8> {
+    receive_counting(both, packet).0
+}
+
+/// The same, and how many segments were looked at.
+pub fn receive_counting(both: &mut Both, packet: &[u8]) -> (Result<Taken, u8>, usize) {
     let mut lent = both.library.clone();
-    let is_new = paper::receive(&mut both.paper, packet);
+    let answer = paper::receive(&mut both.paper, packet);
+    let (Ok((_, probes)) | Err((_, probes))) = answer;
+    let is_new = answer.map(|(is_new, _)| is_new).map_err(|(number, _)| number);
     let received = Received {
         refusal: u64::from(is_new.err().unwrap_or(0)),
         is_new: is_new == Ok(true),
         count: both.paper.count,
+        probes,
     };
     let answer = sys::receive_columns(lent.head, &mut lent.keys, &mut lent.heard, packet);
     assert_eq!(answer, received, "{packet:02x?} in {both:?}");
     let taken = is_new.map(|is_new| if is_new { Taken::New } else { Taken::Known });
-    assert_eq!(both.library.receive(packet).map_err(Refusal::number), taken, "{packet:02x?}");
+    let (said, looked_at) = both.library.receive_counting(packet);
+    assert_eq!((said.map_err(Refusal::number), looked_at), (taken, probes), "{packet:02x?}");
     assert_eq!((lent.keys, lent.heard), (both.library.keys, both.library.heard), "{packet:02x?}");
     both.compare();
-    taken
+    (taken, probes)
 }
 
 #[test]

@@ -5,11 +5,8 @@ use Rattle.segment.proofs.merged.Tie as tie
 larger-requires : tie.Need-larger-requires
 larger-requires c κs = search numbering
 
-larger-requires-2 : tie.Need-larger-requires-2
-larger-requires-2 c κs = search numbering
-
-larger-requires-3 : tie.Need-larger-requires-3
-larger-requires-3 c κs = search numbering
+either-requires : tie.Need-either-requires
+either-requires c κs = search numbering
 
 smaller-requires : tie.Need-smaller-requires
 smaller-requires c κs = search numbering
@@ -21,12 +18,4 @@ returns : tie.Need-returns
 returns c = search numbering
 
 pub merged-spec : {M : Type 1} → statement M
-merged-spec =
-    tie.close
-    (tie.spec
-    larger-requires
-    larger-requires-2
-    larger-requires-3
-    smaller-requires
-    joined-requires
-    returns)
+merged-spec = tie.close (tie.spec larger-requires either-requires smaller-requires joined-requires returns)

@@ -59,8 +59,8 @@ pub fn is_valid(table: &Table) -> bool {
     !failed(table).contains(&true)
 }
 
-/// Takes the packet into the table and says whether its segment is new.
-pub fn receive(table: &mut Table, packet: &[u8]) -> Result<bool, u8> {
+/// What a packet says to a table. Refusals 16, 1 to 10, and 17.
+fn said(table: &Table, packet: &[u8]) -> Result<Segment, u8> {
     if !is_valid(table) {
         return Err(16);
     }
@@ -76,26 +76,47 @@ pub fn receive(table: &mut Table, packet: &[u8]) -> Result<bool, u8> {
     if offset >= 1 << 31 {
         return Err(10);
     }
-    let heard = Segment {
+    Ok(Segment {
         offset,
         code: report.code as u8,
         duration: report.duration as u16,
         volume: report.volume as u16,
         ended: report.ended,
         marked: report.marker,
-    };
-    let held = &table.segments[..table.count];
-    let mut held: BTreeMap<_, _> = held.iter().map(|s| ((s.offset, s.code), *s)).collect();
-    let is_new = !held.contains_key(&(offset, heard.code));
-    if is_new && held.len() == 128 {
-        return Err(11);
+    })
+}
+
+/// How many entries are looked at for a pair: a halving search over the range 0 to n of the entries
+/// held, which keeps what is right of the middle if that is smaller, else what is left.
+fn probes(held: &[Segment], pair: (u64, u8)) -> usize {
+    let (mut range, mut probes) = (0..held.len(), 0);
+    while !range.is_empty() {
+        let middle = (range.start + range.end) / 2;
+        let is_smaller = (held[middle].offset, held[middle].code) < pair;
+        range = if is_smaller { middle + 1..range.end } else { range.start..middle };
+        probes += 1;
     }
-    held.entry((offset, heard.code)).and_modify(|s| *s = both(s, &heard)).or_insert(heard);
+    probes
+}
+
+/// Takes the packet into the table and says whether its segment is new. That, and a refusal, comes
+/// with the number of entries looked at.
+pub fn receive(table: &mut Table, packet: &[u8]) -> Result<(bool, usize), (u8, usize)> {
+    let heard = said(table, packet).map_err(|before_search| (before_search, 0))?;
+    let pair = (heard.offset, heard.code);
+    let held = &table.segments[..table.count];
+    let probes = probes(held, pair);
+    let mut held: BTreeMap<_, _> = held.iter().map(|s| ((s.offset, s.code), *s)).collect();
+    let is_new = !held.contains_key(&pair);
+    if is_new && held.len() == 128 {
+        return Err((11, probes));
+    }
+    held.entry(pair).and_modify(|s| *s = both(s, &heard)).or_insert(heard);
     table.count = held.len();
     for (place, segment) in table.segments.iter_mut().zip(held.into_values()) {
         *place = segment;
     }
-    Ok(is_new)
+    Ok((is_new, probes))
 }
 
 /// What two reports of one pair of offset and code say together.
