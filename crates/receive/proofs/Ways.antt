@@ -23,7 +23,8 @@ use Rattle.model.specs.Sizes.{BytesFit}
 use Rattle.model.proofs.Basics.{both-none}
 use Rattle.model.proofs.Packets.{read-in-range}
 use Rattle.model.proofs.Numbers.{segment-back}
-use Rattle.model.proofs.Receives.{taken-then, refused-leaves, taken-unless, takes, looks-at-8}
+use Rattle.model.proofs.Receives.{taken-then, refused-leaves, taken-unless, takes}
+use Rattle.model.proofs.Looks.{looks-at-8}
 use Rattle.model.proofs.Runs.{taken-valid}
 use Rattle.packet.specs.declared.header.Header.{Header}
 use Rattle.packet.specs.Stages.{headerOf, refusalOfHeader}
