@@ -12,20 +12,10 @@ use Rattle.model.specs.Refusals.{tableFull, none}
 use Rattle.model.specs.Packet.{headerRefusal, payloadRefusal}
 use Rattle.model.specs.Search as lookup
 use Rattle.model.specs.Table.{held, noRoom}
-use Rattle.model.specs.Receive.{heardIn, refusedBefore, receiveRefusal, probes, refusing, taken, receive}
+use Rattle.model.specs.Receive.{heardIn, refusedBefore, receiveRefusal, probes, receive}
 use Rattle.model.proofs.Probes.{at-most-8}
 use Rattle.model.proofs.Tables.{tests-passed, held-length}
-use Rattle.model.proofs.Receives.{searched-then}
-
-handed-back : (t : Table) (bs : List ℕ) → (receive t bs .answer .refusal ≡ receiveRefusal t bs) × (receive t bs .answer .probes ≡ probes t bs)
-unfolding receive
-handed-back t bs = go (eqb (receiveRefusal t bs) none) refl
-  where
-    go : (b : Bool) → eqb (receiveRefusal t bs) none ≡ b
-        → (cond b (taken t (heardIn t bs) (probes t bs)) (refusing (receiveRefusal t bs) t (probes t bs)) .answer .refusal ≡ receiveRefusal t bs)
-        × (cond b (taken t (heardIn t bs) (probes t bs)) (refusing (receiveRefusal t bs) t (probes t bs)) .answer .probes ≡ probes t bs)
-    go true e = (sym (eqb-true (receiveRefusal t bs) none e), refl)
-    go false e = (refl, refl)
+use Rattle.model.proofs.Receives.{searched-then, answer-refusal, answer-probes}
 
 -- AT MOST 8
 
@@ -40,12 +30,9 @@ few-probes t bs = go (eqb (refusedBefore t bs) none) refl
     go false e = omega arith
 
 pub looks-at-8 : (t : Table) (bs : List ℕ) → receive t bs .answer .probes ≤ 8
-looks-at-8 t bs = rw (handed-back t bs .1) (few-probes t bs)
+looks-at-8 t bs = rw (answer-probes t bs) (few-probes t bs)
 
--- BY THE REFUSAL
--- the looks of the search if nothing is refused and under 11, none under every other number
-
--- 11 is found out by the search and by nothing before it
+-- 11 IS FOUND OUT BY THE SEARCH, AND BY NOTHING BEFORE IT
 
 abbrev Other : ℕ → Type 0
 Other n = eqb n tableFull ≡ false
@@ -66,16 +53,19 @@ other-before : (t : Table) (bs : List ℕ) → Other (refusedBefore t bs)
 unfolding refusedBefore
 other-before t bs = search (either, other-header, other-payload) depth 8
 
+-- BY THE REFUSAL
+-- the looks of the search if nothing is refused and under 11, none under every other number
+
 module _ (t : Table) (bs : List ℕ) where
   abbrev looked : ℕ
   looked = lookup.search (heardIn t bs) (held t) .probes
 
   pub looks-of-search : (receive t bs .answer .refusal ≡ none) ⊎ (receive t bs .answer .refusal ≡ tableFull) → receive t bs .answer .probes ≡ looked
   unfolding receiveRefusal probes
-  looks-of-search h = handed-back t bs .1 ∙ go (eqb (refusedBefore t bs) none) refl (⊎-elim (λ e. inl (told ∙ e)) (λ e. inr (told ∙ e)) h)
+  looks-of-search h = answer-probes t bs ∙ go (eqb (refusedBefore t bs) none) refl (⊎-elim (λ e. inl (told ∙ e)) (λ e. inr (told ∙ e)) h)
     where
       told : receiveRefusal t bs ≡ receive t bs .answer .refusal
-      told = sym (handed-back t bs .0)
+      told = sym (answer-refusal t bs)
 
       go : (b : Bool) → eqb (refusedBefore t bs) none ≡ b
           → (cond b (cond (noRoom t (heardIn t bs)) 11 0) (refusedBefore t bs) ≡ none) ⊎ (cond b (cond (noRoom t (heardIn t bs)) 11 0) (refusedBefore t bs) ≡ tableFull)
@@ -86,10 +76,10 @@ module _ (t : Table) (bs : List ℕ) where
 
   pub looks-before-search : (receive t bs .answer .refusal ≡ none → ⊥) → (receive t bs .answer .refusal ≡ tableFull → ⊥) → receive t bs .answer .probes ≡ 0
   unfolding receiveRefusal probes
-  looks-before-search p q = handed-back t bs .1 ∙ go (eqb (refusedBefore t bs) none) (noRoom t (heardIn t bs)) (λ e. p (told ∙ e)) (λ e. q (told ∙ e))
+  looks-before-search p q = answer-probes t bs ∙ go (eqb (refusedBefore t bs) none) (noRoom t (heardIn t bs)) (λ e. p (told ∙ e)) (λ e. q (told ∙ e))
     where
       told : receive t bs .answer .refusal ≡ receiveRefusal t bs
-      told = handed-back t bs .0
+      told = answer-refusal t bs
 
       go : (b c : Bool) → (cond b (cond c 11 0) (refusedBefore t bs) ≡ none → ⊥) → (cond b (cond c 11 0) (refusedBefore t bs) ≡ tableFull → ⊥) → cond b looked 0 ≡ 0
       go true true p q = absurd (q refl)

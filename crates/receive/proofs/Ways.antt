@@ -7,18 +7,17 @@ use mathlib.Core.Logic.{⊎-elim}
 use native.Mathlib.Omega.{arith}
 use borrow.Author.Needs.{needs}
 use borrow.Author.Tests.{eq-eqb, ne-eqb, leb-true, not-true, not-false}
-use lib.Dec.{eqb, leb}
+use lib.Dec.{eqb}
 use lib.ListN.{getD, take, drop}
 use mir.Val.{Fits}
 use mir.Syntax.{w8}
 use Rattle.model.specs.declared.Table.{Table}
 use Rattle.model.specs.declared.Head.{Head}
 use Rattle.model.specs.declared.Received.{Received}
-use Rattle.model.specs.Refusals.{_orElse_}
 use Rattle.model.specs.Packet.{headerRefusal, payloadRefusal, payload, marker, payloadType, timestamp, ssrc, code}
 use Rattle.model.specs.Search.{search}
 use Rattle.model.specs.Table.{keyOf, heardOf, segmentOf, held, tableOf, holding, valid, noRoom}
-use Rattle.model.specs.Receive.{offset, refusedWith, refusing, taken, heardIn, refusedBefore, receiveRefusal, probes, receive, refuses}
+use Rattle.model.specs.Receive.{refusedWith, refusing, taken, heardIn, refusedBefore, receiveRefusal, probes, receive, refuses}
 use Rattle.model.specs.Sizes.{BytesFit}
 use Rattle.model.proofs.Basics.{both-none}
 use Rattle.model.proofs.Packets.{read-in-range}

@@ -16,20 +16,19 @@ use Rattle.table.specs.Columns.{insertedAt}
 
 -- THE KEYS OF WHAT IS HELD
 
-module _ (t : Table) (i : ℕ) (h : i < t .head .count) where
-  -- the pair at place i is the one of key k exactly if k is its key
-  module _ (k w : ℕ) where
-    key-at : keyOf (entry (held t) i) ≡ getD (t .keys) i 0
-    key-at = ap keyOf (held-at t i h) ∙ key-back (getD (t .keys) i 0) (getD (t .heard) i 0)
+-- the pair at place i is the one of key k exactly if k is its key
+module _ (t : Table) (i : ℕ) (h : i < t .head .count) (k w : ℕ) where
+  key-at : keyOf (entry (held t) i) ≡ getD (t .keys) i 0
+  key-at = ap keyOf (held-at t i h) ∙ key-back (getD (t .keys) i 0) (getD (t .heard) i 0)
 
-    code-at : entry (held t) i .code < 256
-    code-at = rw (held-at t i h) (omega arith)
+  code-at : entry (held t) i .code < 256
+  code-at = rw (held-at t i h) (omega arith)
 
-    pub key-alike : getD (t .keys) i 0 ≡ k → Alike (segmentOf k w) (entry (held t) i)
-    key-alike e = record { offset = omega (arith, key-at, code-at); code = omega (arith, key-at, code-at) }
+  pub key-alike : getD (t .keys) i 0 ≡ k → Alike (segmentOf k w) (entry (held t) i)
+  key-alike e = record { offset = omega (arith, key-at, code-at); code = omega (arith, key-at, code-at) }
 
-    pub alike-key : Alike (segmentOf k w) (entry (held t) i) → getD (t .keys) i 0 ≡ k
-    alike-key a = omega (arith, key-at, key-back k w)
+  pub alike-key : Alike (segmentOf k w) (entry (held t) i) → getD (t .keys) i 0 ≡ k
+  alike-key a = omega (arith, key-at, key-back k w)
 
 -- ONE COLUMN
 
