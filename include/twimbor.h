@@ -1,8 +1,8 @@
 /* Twimbor: RTP packets that carry one telephone-event report (RFC 4733).
  *
  * Every function checks its own input and answers a refusal's number, 0 if nothing is refused. Under a refusal nothing lent
- * changes, but for the table of twimbor_open, and the values answered are zeros, but for the count of twimbor_received, and its
- * probes under 11. Link with the archive that `rt staticlib twimbor` writes.
+ * changes, but for the table of twimbor_open, and the values answered are zeros, but for the count of twimbor_received and of
+ * twimbor_captured, and the probes under 11. Link with the archive that `rt staticlib twimbor` writes.
  *
  * A pointer with a number of `bytes` or `records` stands for that many, a pointer to a table or a column for all of it. What it
  * points to may not be written by anything else during the call, and what the call writes may not overlap anything else that is
@@ -143,6 +143,15 @@ typedef struct {
     size_t probes;                  /* the segments looked at to find the report's pair: at most 8; 0 if refused before that */
 } twimbor_received;
 
+typedef struct {
+    uint8_t refusal;                /* 0, or 16 */
+    size_t count;                   /* the segments held after the call; under 16, as many as before */
+    size_t used;                    /* the bytes of the whole frames; what comes after them is left */
+    size_t taken;                   /* the packets taken, their segments new or known */
+    size_t refused;                 /* the packets refused; with those taken, as many as there are whole frames */
+    size_t packed;                  /* those of them that were refused with 17 */
+} twimbor_captured;
+
 /* One event of the list. */
 typedef struct {
     uint8_t code;                   /* the key */
@@ -173,6 +182,8 @@ typedef struct {
 twimbor_opened twimbor_open_table(uint32_t payload_type, uint32_t ssrc, uint32_t origin);
 bool twimbor_is_valid_columns(twimbor_head head, const uint64_t *keys, const uint32_t *heard);
 twimbor_received twimbor_receive_columns(twimbor_head head, uint64_t *keys, uint32_t *heard, const uint8_t *packet, size_t bytes);
+twimbor_captured twimbor_receive_capture_columns(twimbor_head head, uint64_t *keys, uint32_t *heard, const uint8_t *frames,
+                                                 size_t bytes);
 twimbor_event_result twimbor_event_at_columns(twimbor_head head, const uint64_t *keys, const uint32_t *heard, uint32_t k);
 twimbor_listed twimbor_list_columns(twimbor_head head, const uint64_t *keys, const uint32_t *heard, twimbor_event *list,
                                     size_t records);
@@ -213,6 +224,21 @@ static inline twimbor_received twimbor_receive(twimbor_table *table, const uint8
     twimbor_received received = twimbor_receive_columns(table->head, table->keys, table->heard, packet, bytes);
     table->head.count = received.count;
     return received;
+}
+
+/* Receives a whole capture: a buffer of RFC 4571 frames, each a packet's length in two bytes, the high one first, then the packet.
+ * The packets of the whole frames are received one after another, as by twimbor_receive, and `taken`, `refused` and `packed` count
+ * what it answers to them. A frame of length 0 is one with an empty packet, which is refused. A last frame that the buffer's end cuts
+ * short, be it in its length, is left, and is no refusal; `used` tells where it begins. So a capture can be handed over in pieces:
+ * the bytes from `used` on are put before the next piece. A frame has at most 65537 bytes, so fewer are ever left.
+ *
+ * Refused: 16 if the table fails its tests, and then the table is as it was, in every place, and nothing is used or counted. The
+ * table is tested once, not for each packet. */
+static inline twimbor_captured twimbor_receive_capture(twimbor_table *table, const uint8_t *frames, size_t bytes)
+{
+    twimbor_captured captured = twimbor_receive_capture_columns(table->head, table->keys, table->heard, frames, bytes);
+    table->head.count = captured.count;
+    return captured;
 }
 
 /* The event at number k, counted from 1 by start, then code. A key held for longer than its sender's segments is one event of

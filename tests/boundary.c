@@ -241,6 +241,63 @@ static void receiving(void)
     EXPECT(twimbor_is_valid(table) && around_stays());
 }
 
+/* Captures in the memory of a longer one, which goes on after their end with what would be taken. */
+static uint8_t frames[131 * 18];
+
+static size_t put_frame(size_t at, const uint8_t *packet, size_t bytes)
+{
+    frames[at] = (uint8_t)(bytes >> 8);
+    frames[at + 1] = (uint8_t)bytes;
+    memcpy(frames + at + 2, packet, bytes);
+    return at + 2 + bytes;
+}
+
+static bool captured(twimbor_captured c, size_t count, size_t used, size_t taken, size_t refused, size_t packed)
+{
+    return c.refusal == 0 && c.count == count && c.used == used && c.taken == taken && c.refused == refused && c.packed == packed;
+}
+
+static void capturing(void)
+{
+    /* P7's three reports, cut at each place, and received on from there. */
+    size_t at = 0;
+    for (int i = 0; i < 3; i++) at = put_frame(at, REPORTS[i], 16);
+    for (size_t bytes = 0; bytes <= at; bytes++) {
+        twimbor_table *table = opened(), want = *table;
+        size_t whole = bytes / 18, count = whole > 0;
+        twimbor_captured c = twimbor_receive_capture(table, frames, bytes);
+        EXPECT(captured(c, count, 18 * whole, whole, 0, 0) && table->head.count == count);
+        if (whole == 0) EXPECT(same_table(table, &want));
+        c = twimbor_receive_capture(table, frames + c.used, at - c.used);
+        EXPECT(captured(c, 1, at - 18 * whole, 3 - whole, 0, 0));
+        want.head.count = 1;
+        twimbor_set_segment(&want, 0, HEARD);
+        EXPECT(same_table(table, &want) && around_stays());
+    }
+
+    /* A frame of length 0 is refused, and so is a packed packet and one of 15 bytes; none stops the next. */
+    twimbor_table *table = opened(), want = *table;
+    at = put_frame(0, long_packet(), 0);
+    EXPECT(captured(twimbor_receive_capture(table, frames, at), 0, 2, 0, 1, 0) && same_table(table, &want));
+    EXPECT(captured(twimbor_receive_capture(table, frames, 1), 0, 0, 0, 0, 0) && same_table(table, &want));
+    at = put_frame(at, long_packet(), 20);
+    at = put_frame(at, REPORTS[0], 15);
+    at = put_frame(at, REPORTS[0], 16);
+    EXPECT(captured(twimbor_receive_capture(table, frames, at), 1, at, 1, 3, 1) && around_stays());
+
+    /* More new segments than there is room for, and a known one after them. */
+    table = opened();
+    twimbor_report report = FIRST;
+    at = 0;
+    for (uint32_t n = 0; n <= 130; n++) {
+        report.timestamp = FIRST.timestamp + (n < 130 ? n : 77);
+        EXPECT(twimbor_write(report, output, 16) == 0);
+        at = put_frame(at, output, 16);
+    }
+    EXPECT(captured(twimbor_receive_capture(table, frames, at), 128, at, 129, 2, 0));
+    EXPECT(table->head.count == 128 && twimbor_is_valid(table) && around_stays());
+}
+
 /* Two keys, the first of two segments; lists with 0, 1, 2 and 3 records, where `list` has one more. */
 static void listing(void)
 {
@@ -314,6 +371,12 @@ static void failing(void)
         EXPECT(!twimbor_is_valid(table));
         twimbor_received r = twimbor_receive(table, REPORTS[0], 16);
         EXPECT(r.refusal == TWIMBOR_INVALID_TABLE && !r.is_new && r.count == counts[i] && r.probes == 0);
+        for (size_t bytes = 0; bytes <= 18; bytes += 6) {
+            put_frame(0, REPORTS[0], 16);
+            twimbor_captured c = twimbor_receive_capture(table, frames, bytes);
+            EXPECT(c.refusal == TWIMBOR_INVALID_TABLE && c.count == counts[i] && c.used == 0);
+            EXPECT(c.taken == 0 && c.refused == 0 && c.packed == 0 && same_table(table, &before));
+        }
         twimbor_event_result e = twimbor_event_at(table, 1);
         EXPECT(e.refusal == TWIMBOR_INVALID_TABLE && same_event(e.event, none));
         twimbor_listed l = twimbor_list(table, list, 1);
@@ -358,6 +421,7 @@ int main(void)
     plans();
     opening();
     receiving();
+    capturing();
     listing();
     short_segments();
     failing();

@@ -60,6 +60,14 @@ AT(twimbor_received, is_new, 8, 1);
 AT(twimbor_received, count, 16, 8);
 AT(twimbor_received, probes, 24, 8);
 
+SIZE(twimbor_captured, 48);
+AT(twimbor_captured, refusal, 0, 1);
+AT(twimbor_captured, count, 8, 8);
+AT(twimbor_captured, used, 16, 8);
+AT(twimbor_captured, taken, 24, 8);
+AT(twimbor_captured, refused, 32, 8);
+AT(twimbor_captured, packed, 40, 8);
+
 SIZE(twimbor_event, 16);
 AT(twimbor_event, code, 0, 1);
 AT(twimbor_event, start, 4, 4);

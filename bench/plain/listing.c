@@ -1,4 +1,4 @@
-/* The listing program in plain C: the same rules, the table tested once, frames received in place in a buffer. */
+/* The listing program in plain C: the same rules, each piece that is read received in place by one call. */
 #include "plain.h"
 #include <stdio.h>
 #include <stdlib.h>
@@ -44,21 +44,18 @@ int main(void)
     }
     static twimbor_table t;
     t.head = (twimbor_head){(uint8_t)type, ssrc, origin, 0};
-    if (!plain_is_valid(&t)) return 1;
     uint64_t taken = 0, refused = 0, packed = 0;
     size_t kept = 0;
     ssize_t got;
     while ((got = read(0, buffer + kept, sizeof buffer - kept)) > 0) {
-        size_t n = kept + (size_t)got, at = 0;
-        while (n - at >= 2) {
-            size_t length = (size_t)buffer[at] << 8 | buffer[at + 1];
-            if (n - at - 2 < length) break;
-            uint8_t refusal = plain_receive_valid(&t, buffer + at + 2, length).refusal;
-            if (refusal == 0) taken++; else { refused++; packed += refusal == 17; }
-            at += 2 + length;
-        }
-        memmove(buffer, buffer + at, n - at);
-        kept = n - at;
+        size_t n = kept + (size_t)got;
+        twimbor_captured c = plain_receive_capture(&t, buffer, n);
+        if (c.refusal != 0) return 1;
+        taken += c.taken;
+        refused += c.refused;
+        packed += c.packed;
+        kept = n - c.used;
+        memmove(buffer, buffer + c.used, kept);
     }
     static twimbor_event out[128];
     size_t events = plain_list(&t, out, 128).events;

@@ -14,5 +14,6 @@ typedef struct {
 } plain_answer;
 plain_answer plain_receive(twimbor_table *t, const uint8_t *p, size_t n);
 plain_answer plain_receive_valid(twimbor_table *t, const uint8_t *p, size_t n);     /* the table passes the tests */
+twimbor_captured plain_receive_capture(twimbor_table *t, const uint8_t *frames, size_t bytes);
 
 twimbor_listed plain_list(const twimbor_table *t, twimbor_event *out, size_t room);

@@ -5,17 +5,8 @@
  * tests: each on each segment, only rising order and durations with an exit and the rest gathered, no exit at all; one, two and
  * four segments at a time. This is the fastest with 16 segments held and more, and within 1 ns of it with fewer. Of the ways to
  * write the search, one that branches is fastest on the packets of bench/table.c, which come in a fixed cycle. */
-#include "plain.h"
+#include "inline.h"
 #include <string.h>
-
-/* In each caller: a copy that they share costs a call. */
-#define INLINE static inline __attribute__((always_inline))
-
-enum { E = 1 << 16, M = 1 << 17 };
-
-static uint8_t code(uint64_t key) { return (uint8_t)key; }
-static uint16_t duration(uint32_t heard) { return (uint16_t)heard; }
-static uint8_t volume(uint32_t heard) { return (uint8_t)(heard >> 18); }
 
 INLINE bool passes(const twimbor_table *t)
 {
@@ -45,11 +36,6 @@ INLINE bool passes(const twimbor_table *t)
 bool plain_is_valid(const twimbor_table *t)
 {
     return passes(t);
-}
-
-static uint32_t number_32(const uint8_t *p)
-{
-    return (uint32_t)p[0] << 24 | (uint32_t)p[1] << 16 | (uint32_t)p[2] << 8 | p[3];
 }
 
 static plain_answer refused(uint8_t refusal)

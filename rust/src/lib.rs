@@ -53,4 +53,4 @@ pub use event::Event;
 pub use plan::{Packets, Plan};
 pub use refusal::Refusal;
 pub use report::Report;
-pub use table::{Head, PLACES, Segment, Table, Taken};
+pub use table::{Captured, Head, PLACES, Segment, Table, Taken};

@@ -2,8 +2,8 @@
 //! same with `Result` and [`Refusal`](crate::Refusal).
 //!
 //! Each call answers the refusal's number, 0 if nothing is refused. Under a refusal nothing lent
-//! changes, and the values answered are zeros, but for the count of [`Received`], and its probes
-//! under 11.
+//! changes, and the values answered are zeros, but for the count of [`Received`] and [`Captured`],
+//! and the probes under 11.
 
 use crate::{Event, Head, PLACES, Plan, Report, Table};
 
@@ -51,6 +51,24 @@ pub struct Received {
     pub probes: usize,
 }
 
+/// What [`receive_capture_columns`] answers.
+#[repr(C)]
+#[derive(Clone, Copy, Debug, PartialEq, Eq)]
+pub struct Captured {
+    /// The refusal's number, 16, or 0.
+    pub refusal: u8,
+    /// The segments held after the call; under 16, as many as before.
+    pub count: usize,
+    /// The bytes of the whole frames.
+    pub used: usize,
+    /// The packets taken.
+    pub taken: usize,
+    /// The packets refused.
+    pub refused: usize,
+    /// Those of them that were refused with 17.
+    pub packed: usize,
+}
+
 /// What [`event_at_columns`] answers.
 #[repr(C)]
 #[derive(Clone, Copy, Debug, PartialEq, Eq)]
@@ -90,6 +108,13 @@ unsafe extern "C" {
         packet: *const u8,
         bytes: usize,
     ) -> Received;
+    fn twimbor_receive_capture_columns(
+        head: Head,
+        keys: &mut Keys,
+        heard: &mut Heard,
+        frames: *const u8,
+        bytes: usize,
+    ) -> Captured;
     safe fn twimbor_event_at_columns(head: Head, keys: &Keys, heard: &Heard, k: u32)
     -> EventResult;
     fn twimbor_list_columns(
@@ -137,6 +162,16 @@ pub fn is_valid_columns(head: Head, keys: &Keys, heard: &Heard) -> bool {
 /// Receives a packet.
 pub fn receive_columns(head: Head, keys: &mut Keys, heard: &mut Heard, packet: &[u8]) -> Received {
     unsafe { twimbor_receive_columns(head, keys, heard, packet.as_ptr(), packet.len()) }
+}
+
+/// Receives the packets of a buffer's whole frames.
+pub fn receive_capture_columns(
+    head: Head,
+    keys: &mut Keys,
+    heard: &mut Heard,
+    frames: &[u8],
+) -> Captured {
+    unsafe { twimbor_receive_capture_columns(head, keys, heard, frames.as_ptr(), frames.len()) }
 }
 
 /// The event at number k.

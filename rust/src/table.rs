@@ -100,6 +100,19 @@ pub enum Taken {
     Known,
 }
 
+/// What [`Table::receive_capture`] says of the frames that it received.
+#[derive(Clone, Copy, Debug, PartialEq, Eq, Hash)]
+pub struct Captured {
+    /// How many bytes the whole frames use. What comes after them, a frame cut short, is left.
+    pub used: usize,
+    /// How many packets were taken, their segments new or known.
+    pub taken: usize,
+    /// How many packets were refused. With those taken they are as many as the whole frames.
+    pub refused: usize,
+    /// How many of these were refused with 17.
+    pub packed: usize,
+}
+
 impl Table {
     /// An empty table for one payload type and SSRC. Refusal: 12.
     pub fn open(payload_type: u32, ssrc: u32, origin: u32) -> Result<Table, Refusal> {
@@ -153,6 +166,34 @@ impl Table {
         self.head.count = received.count;
         let taken = if received.is_new { Taken::New } else { Taken::Known };
         (unless_refused(received.refusal as u8, taken), received.probes)
+    }
+
+    /// Receives a whole capture: the packets of a buffer's RFC 4571 frames, each as by
+    /// [`Table::receive`], one after another. A last frame that the buffer's end cuts short is left.
+    /// Refusal: 16; the table stays as it was.
+    ///
+    /// A capture that comes in pieces is received piece by piece, with what one call left put before
+    /// the next piece; fewer than 65,537 bytes are ever left.
+    ///
+    /// ```
+    /// use twimbor::{Refusal, Report, Table};
+    ///
+    /// let mut table = Table::open(101, 7, 0)?;
+    /// let key = Report { payload_type: 101, ssrc: 7, code: 5, duration: 400, ..Report::default() };
+    /// let mut frames = [0; 27]; // one frame of 2 + 16 bytes, and half of another
+    /// frames[1] = 16;
+    /// key.write(&mut frames[2..18])?;
+    /// frames.copy_within(..9, 18);
+    /// let captured = table.receive_capture(&frames)?;
+    /// assert_eq!((captured.taken, captured.refused, captured.used), (1, 0, 18));
+    /// # Ok::<(), Refusal>(())
+    /// ```
+    pub fn receive_capture(&mut self, frames: &[u8]) -> Result<Captured, Refusal> {
+        let got = sys::receive_capture_columns(self.head, &mut self.keys, &mut self.heard, frames);
+        self.head.count = got.count;
+        let captured =
+            Captured { used: got.used, taken: got.taken, refused: got.refused, packed: got.packed };
+        unless_refused(got.refusal, captured)
     }
 
     /// All events, by start, then code. Refusal: 16.

@@ -1,8 +1,8 @@
-//! The rows of document 01, "Both sides of each edge", those of packed packets and of segments of
-//! any size, and the words of the refusals.
+//! The rows of document 01, "Both sides of each edge", those of packed packets, of segments of any
+//! size and of whole captures, and the words of the refusals.
 
 use std::collections::HashSet;
-use twimbor::{Event, Plan, Refusal, Report, Segment, Table, Taken};
+use twimbor::{Captured, Event, Plan, Refusal, Report, Segment, Table, Taken};
 
 const P7: Plan = Plan {
     payload_type: 101,
@@ -189,6 +189,98 @@ fn packed_packets_hold_two_or_more_whole_reports() {
         };
         assert_eq!(Report::read(&packet).map(|_| ()).map_err(Refusal::number), expected);
         assert_eq!(table.receive(&packet).map(|_| ()).map_err(Refusal::number), expected);
+    }
+}
+
+/// The three reports of P7, each in a frame.
+fn p7_frames() -> [Vec<u8>; 3] {
+    let frames: Vec<_> = P7.packets().unwrap().map(|packet| framed(&packet)).collect();
+    frames.try_into().unwrap()
+}
+
+fn framed(packet: &[u8]) -> Vec<u8> {
+    [&(packet.len() as u16).to_be_bytes(), packet].concat()
+}
+
+/// What P7's table says of a capture: the bytes used, and how many are taken, refused, packed.
+fn captured(capture: &[u8]) -> (usize, usize, usize, usize) {
+    let mut table = Table::open(P7.payload_type, P7.ssrc, P7.start).unwrap();
+    let Captured { used, taken, refused, packed } = table.receive_capture(capture).unwrap();
+    assert_eq!(table.segments().len(), taken.min(1));
+    (used, taken, refused, packed)
+}
+
+#[test]
+fn a_capture_is_used_up_to_its_last_whole_frame() {
+    let [one, two, three] = p7_frames();
+    let all = [one, two, three].concat();
+    assert_eq!(captured(&[]), (0, 0, 0, 0));
+    for bytes in 0..=all.len() {
+        let whole = bytes / 18;
+        assert_eq!(captured(&all[..bytes]), (18 * whole, whole, 0, 0));
+    }
+}
+
+#[test]
+fn a_length_of_0_is_a_refused_packet_and_one_byte_is_none() {
+    let [one, two, _] = p7_frames();
+    assert_eq!(captured(&[0]), (0, 0, 0, 0));
+    assert_eq!(captured(&[16]), (0, 0, 0, 0));
+    assert_eq!(captured(&[0, 0]), (2, 0, 1, 0));
+    assert_eq!(captured(&[0, 0, 0]), (2, 0, 1, 0));
+    assert_eq!(captured(&[0, 1]), (0, 0, 0, 0));
+    assert_eq!(captured(&[&one[..], &[0, 0], &two, &[0, 0]].concat()), (40, 2, 2, 0));
+}
+
+#[test]
+fn refused_packets_stop_no_later_one() {
+    let [one, two, _] = p7_frames();
+    let packed = framed(&[&one[2..], &one[14..]].concat());
+    let not_one_report = framed(&one[2..17]);
+    let other_ssrc = framed(&[&one[2..13], &[0x45], &one[14..]].concat());
+    assert_eq!(captured(&[&packed[..], &one].concat()), (40, 1, 1, 1));
+    let capture = [&other_ssrc[..], &one, &not_one_report, &packed, &two, &packed];
+    assert_eq!(captured(&capture.concat()), (18 + 18 + 17 + 22 + 18 + 22, 2, 4, 2));
+}
+
+#[test]
+fn what_a_full_table_refuses_is_counted() {
+    let mut table = Table::open(P7.payload_type, P7.ssrc, 0).unwrap();
+    let first = |start| framed(&Plan { start, ..P7 }.packets().unwrap().next().unwrap());
+    let capture: Vec<u8> = (0..130).chain([77]).flat_map(first).collect();
+    let captured = Captured { used: 131 * 18, taken: 129, refused: 2, packed: 0 };
+    assert_eq!(table.receive_capture(&capture), Ok(captured));
+    assert_eq!(table.segments().len(), 128);
+}
+
+#[test]
+fn a_table_that_fails_the_tests_receives_no_capture() {
+    let [one, ..] = p7_frames();
+    let opened = Table::open(P7.payload_type, P7.ssrc, P7.start).unwrap();
+    let mut too_many = opened.clone();
+    too_many.head.count = 129;
+    let mut no_duration = opened.clone();
+    no_duration.head.count = 1;
+    for failing in [too_many, no_duration] {
+        for capture in [&one[..], &one[..17], &[]] {
+            let mut table = failing.clone();
+            assert_eq!(table.receive_capture(capture), Err(Refusal::InvalidTable));
+            assert_eq!(table, failing);
+        }
+    }
+}
+
+#[test]
+fn a_capture_goes_on_from_the_bytes_used() {
+    let all = [&p7_frames().concat()[..], &[0, 0]].concat();
+    for cut in 0..=all.len() {
+        let mut table = Table::open(P7.payload_type, P7.ssrc, P7.start).unwrap();
+        let before = table.receive_capture(&all[..cut]).unwrap();
+        let after = table.receive_capture(&all[before.used..]).unwrap();
+        assert_eq!(before.used + after.used, all.len());
+        assert_eq!((before.taken + after.taken, before.refused + after.refused), (3, 1));
+        let event = Event { code: 5, length: 400, volume: 10, began: true, ended: true, start: 0 };
+        assert_eq!(table.events().unwrap(), [event]);
     }
 }
 

@@ -4,7 +4,7 @@
 use std::fs;
 use std::mem::{offset_of, size_of};
 use std::process::Command;
-use twimbor::sys::{CountResult, EventResult, Listed, Opened, ReadResult, Received};
+use twimbor::sys::{Captured, CountResult, EventResult, Listed, Opened, ReadResult, Received};
 use twimbor::{Event, Head, Plan, Refusal, Report, Table};
 
 fn assertion(c: &str, value: usize) -> String {
@@ -59,6 +59,9 @@ fn structs_and_numbers_are_the_headers() {
     layout!(file, CountResult as "twimbor_count_result" { reports, refusal });
     layout!(file, Opened as "twimbor_opened" { table, refusal });
     layout!(file, Received as "twimbor_received" { refusal, is_new, count, probes });
+    layout!(file, Captured as "twimbor_captured" {
+        refusal, count, used, taken, refused, packed
+    });
     layout!(file, EventResult as "twimbor_event_result" { event, refusal });
     layout!(file, Listed as "twimbor_listed" { refusal, events });
     for refusal in Refusal::ALL {

@@ -1,75 +1,88 @@
--- Each way through the definition of a frame, as a law over a buffer and its places.
+-- Each way through the definition of a frame at a place, as a law over a buffer and its places.
 use Prim.Native.Nat.{ℕ, _+_, _-_, _*_, _≤_, _<_}
-use mathlib.Core.Path.{_≡_, refl, sym, _∙_}
+use mathlib.Core.Path.{_≡_, refl, sym, _∙_, ap}
 use mathlib.Core.Bool.{Bool, true, false, cond}
 use mathlib.Core.List.{List}
 use native.Mathlib.Omega.{arith}
 use borrow.Author.Needs.{needs}
-use borrow.Author.Tests.{lt-ltb, le-ltb, lt-leb, le-leb, ltb-false}
-use lib.Dec.{leb, ltb}
-use lib.ListN.{length}
-use Rattle.model.specs.Packet.{byte}
+use lib.ListN.{length, take, drop, length-drop}
+use lib.Seq.{getD-drop, drop-drop}
+use Rattle.model.specs.Packet.{byte, number16}
+use Rattle.model.specs.Frames.{frameSize, startsWhole, firstPacket, afterFirst}
+use Rattle.model.proofs.Frames.{whole-if, whole-then, cut-if}
 use Rattle.framing.specs.declared.Frame.{Frame}
-use Rattle.framing.specs.declared.Frame.the-variants.{Whole, Part, Nothing}
+use Rattle.framing.specs.declared.Frame.the-variants.{Whole, Rest}
 use Rattle.framing.specs.Frame.{frameAt}
 
 module _ (bs : List ℕ) (at : ℕ) where
-  pub nothing-there : length bs ≤ at → Nothing ≡ frameAt bs at
-  unfolding frameAt
-  nothing-there h = rw (le-leb (length bs) at h)
+  size-there : frameSize (drop at bs) ≡ 2 + (byte bs at * 256 + byte bs (at + 1))
+  unfolding frameSize
+  size-there = let here : at + 0 ≡ at = omega arith in rw (getD-drop at bs 0 0, getD-drop at bs 1 0, here)
 
-  module _ (some : at < length bs) where
-    pub length-cut : length bs - at < 2 → Part ≡ frameAt bs at
+  none-whole : length bs - at < frameSize (drop at bs) → Rest ≡ frameAt bs at
+  unfolding frameAt
+  none-whole h = rw (cut-if (drop at bs) (omega (arith, length-drop at bs)))
+
+  pub nothing-there : length bs ≤ at → Rest ≡ frameAt bs at
+  nothing-there h = none-whole (omega (arith, size-there))
+
+  pub length-cut : length bs - at < 2 → Rest ≡ frameAt bs at
+  length-cut h = none-whole (omega (arith, size-there))
+
+  module _ (some : at < length bs) (two : 2 ≤ length bs - at) (x y : ℕ) (high : x ≡ byte bs at) (low : y ≡ byte bs (at + 1)) where
+    pub packet-cut : length bs - at - 2 < x * 256 + y → Rest ≡ frameAt bs at
+    packet-cut h = none-whole (omega (arith, size-there, high, low))
+
+    pub packet-whole : x * 256 + y ≤ length bs - at - 2 → Whole (at + 2) (at + 2 + (x * 256 + y)) ≡ frameAt bs at
     unfolding frameAt
-    length-cut h = rw (lt-leb (length bs) at some, lt-ltb (length bs) (at + 2) (omega arith))
+    packet-whole h =
+        let size : at + frameSize (drop at bs) ≡ at + 2 + (x * 256 + y) = omega (arith, size-there, high, low) in
+        rw (whole-if (drop at bs) (omega (arith, size-there, high, low, length-drop at bs)), size)
 
-    module _ (two : 2 ≤ length bs - at) (x y : ℕ) (high : x ≡ byte bs at) (low : y ≡ byte bs (at + 1)) where
-      pub packet-cut : length bs - at - 2 < x * 256 + y → Part ≡ frameAt bs at
-      unfolding frameAt
-      packet-cut h =
-          rw (
-            lt-leb (length bs) at some,
-            le-ltb (length bs) (at + 2) (omega arith),
-            lt-ltb (length bs) (at + 2 + (byte bs at * 256 + byte bs (at + 1))) (omega (arith, high, low)),
-          )
+-- a whole frame at a place, with its packet and what comes after it
+pub record WholeAt (bs : List ℕ) (at start end : ℕ) : Type 0 where
+  pub whole : startsWhole (drop at bs) ≡ true
+  pub ordered : start ≤ end
+  pub size : end ≡ at + frameSize (drop at bs)
+  pub within : end ≤ length bs
+  pub passed : at + 2 ≤ end
+  pub packet : take (end - start) (drop start bs) ≡ firstPacket (drop at bs)
+  pub after : drop end bs ≡ afterFirst (drop at bs)
 
-      pub packet-whole : x * 256 + y ≤ length bs - at - 2 → Whole (at + 2) (at + 2 + (x * 256 + y)) ≡ frameAt bs at
-      unfolding frameAt
-      packet-whole h =
-          rw (
-            high,
-            low,
-            lt-leb (length bs) at some,
-            le-ltb (length bs) (at + 2) (omega arith),
-            le-ltb (length bs) (at + 2 + (byte bs at * 256 + byte bs (at + 1))) (omega (arith, high, low)),
-          )
+module _ (bs : List ℕ) (at : ℕ) where
+  stands : startsWhole (drop at bs) ≡ true → WholeAt bs at (at + 2) (at + frameSize (drop at bs))
+  unfolding frameSize firstPacket afterFirst
+  stands w =
+      let n = number16 (drop at bs) 0 in
+      let l : 2 + n ≤ length (drop at bs) = whole-then (drop at bs) w in
+      let p : at + (2 + n) - (at + 2) ≡ n = omega arith in
+      record {
+        whole = w;
+        ordered = omega arith;
+        size = refl;
+        within = omega (arith, l, length-drop at bs);
+        passed = omega arith;
+        packet = rw (p, drop-drop 2 at bs);
+        after = sym (drop-drop (2 + n) at bs);
+      }
 
--- a whole frame stands within the buffer, its packet behind its length
-module _ (bs : List ℕ) (at a e : ℕ) where
-  whole-is : Whole a e ≡ frameAt bs at → (a ≡ at + 2) × (e ≡ at + 2 + (byte bs at * 256 + byte bs (at + 1))) × (e ≤ length bs)
+  pub whole-there : (f : Frame) → f ≡ frameAt bs at → (start end : ℕ) → f ≡ Whole start end → WholeAt bs at start end
   unfolding frameAt
-  whole-is = go (leb (length bs) at) (ltb (length bs) (at + 2)) (ltb (length bs) (at + 2 + (byte bs at * 256 + byte bs (at + 1)))) refl
+  whole-there f is start end w = go (startsWhole (drop at bs)) refl (sym w ∙ is)
     where
-      go : (b c d : Bool) → ltb (length bs) (at + 2 + (byte bs at * 256 + byte bs (at + 1))) ≡ d
-          → Whole a e ≡ cond b Nothing (cond c Part (cond d Part (Whole (at + 2) (at + 2 + (byte bs at * 256 + byte bs (at + 1))))))
-          → (a ≡ at + 2) × (e ≡ at + 2 + (byte bs at * 256 + byte bs (at + 1))) × (e ≤ length bs)
-      go true c d h x = let u : _≡_ {A = ℕ} 0 1 = cc in absurd (omega (arith, u))
-      go false true d h x = let u : _≡_ {A = ℕ} 0 1 = cc in absurd (omega (arith, u))
-      go false false true h x = let u : _≡_ {A = ℕ} 0 1 = cc in absurd (omega (arith, u))
-      go false false false h x =
-          let p : a ≡ at + 2 = cc in
-          let q : e ≡ at + 2 + (byte bs at * 256 + byte bs (at + 1)) = cc in
-          (p, q, omega (arith, q, ltb-false (length bs) (at + 2 + (byte bs at * 256 + byte bs (at + 1))) h))
+      go : (b : Bool) → startsWhole (drop at bs) ≡ b → Whole start end ≡ cond b (Whole (at + 2) (at + frameSize (drop at bs))) Rest → WholeAt bs at start end
+      go false e x = let u : _≡_ {A = ℕ} 0 1 = cc in absurd (omega (arith, u))
+      go true e x =
+          let p : start ≡ at + 2 = cc in
+          let q : end ≡ at + frameSize (drop at bs) = cc in
+          rw (p, q) (stands e)
 
-  module _ (f : Frame) (is : f ≡ frameAt bs at) (w : f ≡ Whole a e) where
-    pub whole-ordered : a ≤ e
-    whole-ordered = let x = whole-is (sym w ∙ is) in omega (arith, x .0, x .1)
-
-    pub whole-within : e ≤ length bs
-    whole-within = whole-is (sym w ∙ is) .2
-
-    -- fewer bytes come after it than from its place on
-    pub whole-passed : length bs - e < length bs - at
-    whole-passed = let x = whole-is (sym w ∙ is) in omega (arith, x .1, x .2)
+  pub no-whole-there : (f : Frame) → f ≡ frameAt bs at → f ≡ Rest → startsWhole (drop at bs) ≡ false
+  unfolding frameAt
+  no-whole-there f is r = go (startsWhole (drop at bs)) (sym r ∙ is)
+    where
+      go : (b : Bool) → Rest ≡ cond b (Whole (at + 2) (at + frameSize (drop at bs))) Rest → b ≡ false
+      go false x = refl
+      go true x = let u : _≡_ {A = ℕ} 0 1 = cc in absurd (omega (arith, u))
 
 pub ruleset framing = (needs, nothing-there, length-cut, packet-cut, packet-whole)

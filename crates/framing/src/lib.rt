@@ -3,12 +3,11 @@ ghost use mathlib.Core.Path.{_≡_};
 ghost use Prim.Native.Nat.{_≤_};
 ghost use Rattle.framing.specs.Frame.{frameAt};
 
-// What stands at a place of a buffer: a whole frame, whose packet goes from `start` up to `end`; a part of one, which the
-// buffer's end cuts short; or nothing, at the buffer's end or past it.
+// What stands at a place of a buffer: a whole frame, whose packet goes from `start` up to `end`; or the rest, which has none at its
+// start: nothing, one byte of a length, or a frame that the buffer's end cuts short.
 pub enum Frame {
     Whole { start: usize, end: usize },
-    Part,
-    Nothing,
+    Rest,
 }
 
 fn wide(b: u8) -> usize
@@ -23,15 +22,15 @@ pub fn frame_at(s: &[u8], at: usize) -> Frame
 {
     let n = s.len();
     if n <= at {
-        return Frame::Nothing;
+        return Frame::Rest;
     }
     let left = n - at;
     if left < 2 {
-        return Frame::Part;
+        return Frame::Rest;
     }
     let length = wide(s[at]) * 256 + wide(s[at + 1]);
     if left - 2 < length {
-        return Frame::Part;
+        return Frame::Rest;
     }
     Frame::Whole {
         start: at + 2,

@@ -1,4 +1,4 @@
-// Frames at places of a buffer: whole, cut short, none.
+// Frames at places of a buffer: whole, or none because there is nothing or it is cut short.
 use framing::Frame;
 use framing::frame_at;
 
@@ -11,10 +11,7 @@ fn shown(f: Frame) {
             io::print_decimal(1, end as u64);
             io::write_all(1, b"\n");
         }
-        Frame::Part => {
-            io::write_all(1, b"frame cut\n");
-        }
-        Frame::Nothing => {
+        Frame::Rest => {
             io::write_all(1, b"frame none\n");
         }
     }

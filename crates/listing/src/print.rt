@@ -1,5 +1,5 @@
 // What the listing program prints.
-use super::capture::Capture;
+use super::input::SoFar;
 use model::Event;
 use model::EventAnswer;
 use model::Head;
@@ -38,12 +38,12 @@ fn events<'a>(head: Head, keys: &'a [u64; 128], heard: &'a [u32; 128]) -> u32 {
     k
 }
 
-pub fn listing<'a>(c: Capture, keys: &'a [u64; 128], heard: &'a [u32; 128]) {
+pub fn listing<'a>(c: SoFar, keys: &'a [u64; 128], heard: &'a [u32; 128]) {
     let n = events(c.head, keys, heard);
     line(b"events=", n as u64);
     let counts = c.counts;
     line(b"taken=", counts.taken);
     line(b"refused=", counts.refused);
     line(b"packed=", counts.packed);
-    line(b"cut=", c.cut as u64);
+    line(b"cut=", (0 < c.left) as u64);
 }

@@ -16,9 +16,9 @@ use Rattle.model.specs.Packet.{packetOf, ssrc}
 use Rattle.model.specs.Plan.{cut, reports, reportAt}
 use Rattle.model.specs.Segments.{Derived}
 use Rattle.model.specs.Table.{held, holds, noRoom, put}
-use Rattle.model.specs.Receive.{heardIn, receiveRefusal, receive, refuses}
+use Rattle.model.specs.Receive.{heardIn, receiveRefusal, receive, refuses, arrivals}
 use Rattle.model.specs.Sizes.{Sent, planOf, segmentsInAll, Sizes, BytesFit, FitsTypes}
-use Rattle.model.specs.Demands.{arrivals, Empty, Handed, sent, stranger, bytesOf, Admitted, packets, SentPacket}
+use Rattle.model.specs.Demands.{Empty, Handed, sent, stranger, bytesOf, Admitted, packets, SentPacket}
 use Rattle.model.proofs.Order.{_≺_, Alike, alike-sym, alike-trans, ≺-trans, ≺-alike, alike-≺, ≺-not-alike, Rising, rises}
 use Rattle.model.proofs.Segments.{derived-put}
 use Rattle.model.proofs.Keeping.{keeps-alike}

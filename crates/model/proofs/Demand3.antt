@@ -16,12 +16,10 @@ use Rattle.model.specs.Refusals.{none, outOfRange}
 use Rattle.model.specs.Plan.{fullSegments, restUnits, cut, reports, reportAt, planInRange}
 use Rattle.model.specs.Segments.{rising, segmentsOf}
 use Rattle.model.specs.Table.{segmentsFrom, emptyTable, opened, held, allValid, valid}
-use Rattle.model.specs.Receive.{heardIn}
+use Rattle.model.specs.Receive.{heardIn, tableAfter, arrivals}
 use Rattle.model.specs.Events.{eventsOf}
 use Rattle.model.specs.Sizes.{asListed, Sent, planOf, Sizes, BytesFit}
 use Rattle.model.specs.Demands.{
-  tableAfter,
-  arrivals,
   Empty,
   Lists,
   reportsTaken,

@@ -12,11 +12,9 @@ use Rattle.model.specs.declared.Segment.{Segment}
 use Rattle.model.specs.declared.Table.{Table}
 use Rattle.model.specs.Packet.{reportIn}
 use Rattle.model.specs.Plan.{fullSegments, reports, reportAt}
-use Rattle.model.specs.Receive.{heardIn, receive}
+use Rattle.model.specs.Receive.{heardIn, receive, tableAfter, arrivals}
 use Rattle.model.specs.Sizes.{asListed, Sent, end, planOf, Sizes, FitsTypes}
 use Rattle.model.specs.Demands.{
-  tableAfter,
-  arrivals,
   Empty,
   Lists,
   Handed,

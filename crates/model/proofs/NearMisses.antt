@@ -11,11 +11,11 @@ use Rattle.model.specs.Packet.{afterHeader, payload, headerRefusal, payl
 use Rattle.model.specs.Plan.{cutFrom, interim, reportsOfAll, markFirst, allOnWire, reports, reportAt, writeReport}
 use Rattle.model.specs.Segments.{rising}
 use Rattle.model.specs.Table.{segmentsFrom, opened, allValid, valid, holds, put}
-use Rattle.model.specs.Receive.{heardIn, refusedBefore, receiveRefusal, probes, receive}
+use Rattle.model.specs.Receive.{heardIn, refusedBefore, receiveRefusal, probes, receive, tableAfter}
 use Rattle.model.specs.Events.{units, loudest, lastEnded, continuesNearest, continuing, eventsFrom}
 use Rattle.model.specs.List.{events}
 use Rattle.model.specs.Sizes.{Sent}
-use Rattle.model.specs.Demands.{tableAfter, Handed, sent, packets}
+use Rattle.model.specs.Demands.{Handed, sent, packets}
 
 abbrev table : Table
 table = opened 101 7 0 .table

@@ -27,11 +27,11 @@ use Rattle.model.specs.declared.Event.{Event}
 use Rattle.model.specs.declared.Table.{Table}
 use Rattle.model.specs.Segments.{Within, Derived}
 use Rattle.model.specs.Table.{segmentsFrom, valid, held, validSegment, taking}
-use Rattle.model.specs.Receive.{heardIn, receive, refuses}
+use Rattle.model.specs.Receive.{heardIn, receive, refuses, tableAfter, arrivals}
 use Rattle.model.specs.Events.{eventsOf, Grouped}
 use Rattle.model.specs.List.{events}
 use Rattle.model.specs.Sizes.{BytesFit, FitsTypes}
-use Rattle.model.specs.Demands.{tableAfter, arrivals, Empty, Lists, reportsTaken, Demand-2, Demand-2-any-order}
+use Rattle.model.specs.Demands.{Empty, Lists, reportsTaken, Demand-2, Demand-2-any-order}
 use Rattle.model.proofs.Order.{rises, rises-if}
 use Rattle.model.proofs.Segments.{derived-put, derived-unique, is-segmentsOf}
 use Rattle.model.proofs.Keeping.{attained-more}
@@ -51,6 +51,13 @@ heard-valid t bs f k =
 
 pub taken-valid : (t : Table) (bs : List ℕ) → valid t ≡ true → BytesFit bs → Taken t bs → valid (taking t (heardIn t bs)) ≡ true
 taken-valid t bs s f k = taking-valid t (heardIn t bs) s (heard-valid t bs f (k .searched)) (room t (heardIn t bs) s (k .room))
+
+pub stays-valid : (t : Table) (bs : List ℕ) → valid t ≡ true → BytesFit bs → valid (receive t bs .table) ≡ true
+stays-valid t bs v f = go (refuses (receive t bs .answer)) refl
+  where
+    go : (b : Bool) → refuses (receive t bs .answer) ≡ b → valid (receive t bs .table) ≡ true
+    go true q = rw (refused-leaves t bs q) v
+    go false q = let n = taken-unless t bs q in rw (takes t bs n) (taken-valid t bs v f (taken-then t bs n))
 
 -- what is heard depends on the table's origin alone
 pub heard-from : (t u : Table) (bs : List ℕ) → u .head .origin ≡ t .head .origin → heardIn u bs ≡ heardIn t bs

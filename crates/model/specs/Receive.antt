@@ -2,7 +2,7 @@
 -- its payload (none of 1 to 4); then come 5 and 6, then 17 or 7, and 8 to 11.
 use Prim.Native.Nat.{ℕ, _+_, _-_, _%_}
 use mathlib.Core.Bool.{Bool, false, not, cond}
-use mathlib.Core.List.{List}
+use mathlib.Core.List.{List, [], _∷_}
 use lib.Dec.{leb, eqb}
 use Rattle.model.specs.declared.Report.{Report}
 use Rattle.model.specs.declared.Segment.{Segment}
@@ -82,3 +82,21 @@ receive t bs =
 -- does an answer refuse?
 abbrev pub refuses : Received → Bool
 refuses a = not (eqb (a .refusal) none)
+
+-- ONE CALL AFTER ANOTHER
+
+-- the first call gets the table, each later one the table that the call before it returned, also where that refused
+unfoldable pub tableAfter : Table → List (List ℕ) → Table
+tableAfter t [] = t
+tableAfter t (p ∷ ps) = tableAfter (receive t p .table) ps
+
+-- what the calls answer
+unfoldable pub answers : Table → List (List ℕ) → List Received
+answers t [] = []
+answers t (p ∷ ps) = receive t p .answer ∷ answers (receive t p .table) ps
+
+-- the arrivals: the packets handed over, in order and with repeats, those refused left out
+unfoldable pub arrivals : Table → List (List ℕ) → List (List ℕ)
+arrivals t [] = []
+arrivals t (p ∷ ps) =
+    cond (refuses (receive t p .answer)) (arrivals (receive t p .table) ps) (p ∷ arrivals (receive t p .table) ps)

@@ -120,6 +120,19 @@ pub struct Received {
     pub probes: usize,
 }
 
+// What receiving a whole capture answers beside the columns lent to it: refusal 0, or 16; how many segments are held after it; how many
+// bytes of the buffer its whole frames use; and how many of their packets were taken, how many were refused, and how many of these
+// with 17. Under 16 the count is as before, and the others are 0.
+#[repr(C)]
+pub struct Captured {
+    pub refusal: u8,
+    pub count: usize,
+    pub used: usize,
+    pub taken: usize,
+    pub refused: usize,
+    pub packed: usize,
+}
+
 // What the list call answers beside the lent records: refusal 0 and the number of events, or the refusal's number and 0.
 #[repr(C)]
 pub struct Listed {

@@ -17,14 +17,13 @@ use Rattle.model.specs.declared.Received.{Received}
 use Rattle.model.specs.Packet.{headerRefusal, payloadRefusal, payload, marker, payloadType, timestamp, ssrc, code}
 use Rattle.model.specs.Search.{search}
 use Rattle.model.specs.Table.{keyOf, heardOf, segmentOf, held, tableOf, holding, valid, noRoom}
-use Rattle.model.specs.Receive.{refusedWith, refusing, taken, heardIn, refusedBefore, receiveRefusal, probes, receive, refuses}
+use Rattle.model.specs.Receive.{refusedWith, refusing, taken, heardIn, refusedBefore, receiveRefusal, probes, receive}
 use Rattle.model.specs.Sizes.{BytesFit}
 use Rattle.model.proofs.Basics.{both-none}
-use Rattle.model.proofs.Packets.{read-in-range}
+use Rattle.model.proofs.Packets.{bytes-fit, read-in-range}
 use Rattle.model.proofs.Numbers.{segment-back}
-use Rattle.model.proofs.Receives.{taken-then, refused-leaves, taken-unless, takes}
 use Rattle.model.proofs.Looks.{looks-at-8}
-use Rattle.model.proofs.Runs.{taken-valid}
+use Rattle.model.proofs.Runs.{stays-valid}
 use Rattle.packet.specs.declared.header.Header.{Header}
 use Rattle.packet.specs.Stages.{headerOf, refusalOfHeader}
 use Rattle.packet.proofs.Laws.{Found, found-says, refused-says, payload-there, header-whole, starts-before-end, ends-within}
@@ -35,19 +34,6 @@ use Rattle.receive.specs.declared.hearing.Hearing.the-variants as hearin
 use Rattle.receive.specs.Sayings.{sayingRefusal, hearingOf, refusalOfHearing}
 use Rattle.receive.specs.Receives.{Receives}
 use Rattle.receive.proofs.Hears.{unheard-says, heard-says}
-
--- THE TABLE GOES ON PASSING THE TESTS
-
-pub bytes-fit : (bs : List ℕ) → ((i : ℕ) → Fits w8 (getD bs i 0)) → BytesFit bs
-bytes-fit [] f x m = absurd (List·Memᴰ·not-nil m)
-bytes-fit (y ∷ bs) f x m = ⊎-elim (λ q. rw q (omega (arith, f 0))) (λ k. bytes-fit bs (λ i. f (suc i)) x k) (List·Memᴰ·cases-cons m)
-
-stays-valid : (t : Table) (bs : List ℕ) → valid t ≡ true → BytesFit bs → valid (receive t bs .table) ≡ true
-stays-valid t bs v f = go (refuses (receive t bs .answer)) refl
-  where
-    go : (b : Bool) → refuses (receive t bs .answer) ≡ b → valid (receive t bs .table) ≡ true
-    go true q = rw (refused-leaves t bs q) v
-    go false q = let n = taken-unless t bs q in rw (takes t bs n) (taken-valid t bs v f (taken-then t bs n))
 
 -- 16
 

@@ -7,8 +7,10 @@ ghost use Rattle.model.specs.Packet.{read, write};
 ghost use Rattle.model.specs.Plan.{reportCount, writeReport};
 ghost use Rattle.model.specs.Table.{valid, opened, tableOf, holding};
 ghost use Rattle.model.specs.Receive.{receive};
+ghost use Rattle.model.specs.Capture.{receiveCapture};
 ghost use Rattle.model.specs.List.{eventAt, list};
 ghost use Rattle.twimbor.specs.Results.{readResult, countResult, eventResult};
+use model::Captured;
 use model::CountAnswer;
 use model::Event;
 use model::EventAnswer;
@@ -168,6 +170,22 @@ pub extern "C" fn twimbor_receive_columns(
     ensures { λ r. ⌜ r .probes ≤ 8 ⌝ }
 {
     receive::receive(head, keys, heard, packet)
+}
+
+// Receives the packets of a buffer's whole frames one after another, tells how many were taken and how many refused, and how many
+// bytes their frames use; or refuses them all with 16, and the table is as it was. The answer's count is the table's from then on.
+#[no_mangle]
+pub extern "C" fn twimbor_receive_capture_columns(
+    head: Head,
+    keys: &mut [u64; 128],
+    heard: &mut [u32; 128],
+    frames: &[u8],
+) -> Captured
+    ensures { λ r. ⌜ r ≡ receiveCapture (tableOf head (now (keys .entry)) (now (heard .entry))) (now (frames .entry)) .answer ⌝ }
+    ensures { λ r. ⌜ tableOf (holding (r .count) head) (now (keys .exit)) (now (heard .exit))
+        ≡ receiveCapture (tableOf head (now (keys .entry)) (now (heard .entry))) (now (frames .entry)) .table ⌝ }
+{
+    capture::receive_capture(head, keys, heard, frames)
 }
 
 // The event at number k, counted from 1 by start, then code, or 16 or 13.

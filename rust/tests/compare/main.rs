@@ -3,6 +3,7 @@
 //! place, and lent byte and record, also under a refusal.
 
 mod both;
+mod captures;
 mod lists;
 mod make;
 mod order;

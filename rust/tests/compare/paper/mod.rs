@@ -2,6 +2,7 @@
 //! shares the library's structs for reports, plans and events and nothing else. Every answer is a
 //! `Result` with their number of the refusal.
 
+pub mod capture;
 pub mod events;
 pub mod packet;
 pub mod plan;

@@ -1,0 +1,81 @@
+/* The capture call in plain C, the table behind a pointer and tested once.
+ *
+ * Written for speed: it counts no probes, so its search ends where the pair is found, and a packet as senders write it is received in
+ * the loop itself. The others go to plain_receive_valid. Without that end it is up to 1 ns slower, without that way for one form of packet
+ * 1 ns. Tried as a search: branching, and branch-free, by masks and in assembly. In assembly it takes 10 ns where packets come at random,
+ * and this one 27, but 2 to 3 ns more than this one in every other order with 16 held and more, and 10 ns more where new segments move many.
+ * Tried as a table: its head and columns by name, which is fastest, by pointers, and in local variables. Tried as counts: one for each
+ * answer, which is as fast as any, all and those refused, sums of comparisons; as a length: two bytes, and one number of 16 bits, which is
+ * the same code. Every packet is looked up, as ours does: a loop that first tries the place of the packet before takes 4 to 5 ns in runs. */
+#include "inline.h"
+#include <string.h>
+
+/* The place of a pair, or the one that it would have. */
+INLINE size_t place_of(const twimbor_table *t, uint64_t key)
+{
+    size_t low = 0, high = t->head.count;
+    while (low < high) {
+        size_t middle = (low + high) / 2;
+        if (t->keys[middle] == key) return middle;
+        if (t->keys[middle] < key) low = middle + 1;
+        else high = middle;
+    }
+    return low;
+}
+
+/* The report of a packet as a sender writes it: the header's 12 bytes, the payload's 4. */
+INLINE uint8_t take(twimbor_table *t, const uint8_t *p)
+{
+    if (p[12] > 15) return 8;
+    uint32_t units = (uint32_t)p[14] << 8 | p[15];
+    if (units == 0) return 9;
+    uint32_t offset = number_32(p + 4) - t->head.origin;
+    if (offset >= 0x80000000u) return 10;
+    uint64_t key = (uint64_t)offset << 8 | p[12];
+    uint32_t flags = (p[13] & 128 ? E : 0) | (p[1] & 128 ? M : 0), level = p[13] & 63;
+
+    size_t place = place_of(t, key);
+    if (place < t->head.count && t->keys[place] == key) {
+        uint32_t heard = t->heard[place];
+        if (duration(heard) > units) units = duration(heard);
+        if (volume(heard) < level) level = volume(heard);
+        t->heard[place] = level << 18 | (heard & (E | M)) | flags | units;
+        return 0;
+    }
+    if (t->head.count == 128) return 11;
+    size_t above = t->head.count - place;
+    if (above > 0) {
+        memmove(t->keys + place + 1, t->keys + place, above * sizeof *t->keys);
+        memmove(t->heard + place + 1, t->heard + place, above * sizeof *t->heard);
+    }
+    t->keys[place] = key;
+    t->heard[place] = level << 18 | flags | units;
+    t->head.count++;
+    return 0;
+}
+
+INLINE bool is_plain(const twimbor_table *t, const uint8_t *p, size_t n)
+{
+    return n == 16 && p[0] == 0x80 && (p[1] & 127) == t->head.payload_type && number_32(p + 8) == t->head.ssrc;
+}
+
+/* Aligned: how fast the search is goes with the place of its loop in the processor's lines, by up to a fifth. */
+__attribute__((aligned(64)))
+twimbor_captured plain_receive_capture(twimbor_table *t, const uint8_t *frames, size_t bytes)
+{
+    if (!plain_is_valid(t)) return (twimbor_captured){16, t->head.count, 0, 0, 0, 0};
+    const uint8_t *p = frames, *end = frames + bytes;
+    size_t taken = 0, refused = 0, packed = 0;
+    while (end - p >= 2) {
+        size_t length = (size_t)p[0] << 8 | p[1];
+        if ((size_t)(end - p) - 2 < length) break;
+        uint8_t refusal = __builtin_expect(is_plain(t, p + 2, length), 1) ? take(t, p + 2) : plain_receive_valid(t, p + 2, length).refusal;
+        if (refusal == 0) taken++;
+        else {
+            refused++;
+            packed += refusal == 17;
+        }
+        p += 2 + length;
+    }
+    return (twimbor_captured){0, t->head.count, (size_t)(p - frames), taken, refused, packed};
+}
