@@ -90,7 +90,7 @@ int main(int count, char **args)
         if (u < base) base = u;
     }
     check(same("ours.txt", "plain.txt"), "the lists differ");
-    printf("list_events, 1,000,000 packets, %d held: %.1f ms, plain C %.1f ms, ratio %.2f, at most 1.5\n", HELD, best * 1e3, base * 1e3, best / base);
+    printf("list_events, 1,000,000 packets, %d held: %.1f ms, plain C %.1f ms, ratio %.2f, at most 1.2\n", HELD, best * 1e3, base * 1e3, best / base);
     capture("small.rtp", 10000);
     capture("large.rtp", 10000000);
     run(args[1], "small.rtp", "ours.txt", &ours);

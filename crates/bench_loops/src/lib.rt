@@ -1,5 +1,4 @@
-// Loops that the benchmarks time: the two receiving calls as a Rattle program makes them, on packets of 16 bytes. Both stand
-// in one archive, since the step behind them is inlined where it has one caller and not where it has two.
+// Loops that the benchmarks time: the two receiving calls as a Rattle program makes them, on packets of 16 bytes.
 ghost use mathlib.Core.Path.{_≡_};
 ghost use mathlib.Core.Bool.{true};
 ghost use Rattle.model.specs.Table.{tableOf, valid};

@@ -16,7 +16,7 @@ use Rattle.model.specs.Packet.{bit}
 use Rattle.model.specs.Table.{tableOf, holding, valid}
 use Rattle.model.specs.Receive.{receive, refuses}
 use Rattle.model.specs.Frames.{startsWhole, frameSize}
-use Rattle.model.specs.Capture.{Capturing, takes, refusesPacked, receivingAll, receivingNone, receiveCapture, together}
+use Rattle.model.specs.Capture.{Capturing, refusesPacked, receivingAll, receivingNone, receiveCapture, together}
 use Rattle.model.proofs.Frames.{at-least-2, cut-if}
 use Rattle.model.proofs.Captures.{all-if-valid, none-if-invalid, nothingMore, all-none, ofFrame, all-first, packed-once}
 use Rattle.receive.specs.Receives.{Receives}
@@ -24,7 +24,8 @@ use Rattle.framing.specs.declared.Frame.{Frame}
 use Rattle.framing.specs.declared.Frame.the-variants.{Whole, Rest}
 use Rattle.framing.specs.Frame.{frameAt}
 use Rattle.framing.proofs.Laws.{WholeAt, whole-there, no-whole-there}
-use Rattle.capture.specs.Steps.{uncounted, Room, oneMore, ReceivesAll}
+use Rattle.capture.specs.declared.Tally.{Tally}
+use Rattle.capture.specs.Steps.{uncounted, noneYet, Room, oneMore, captured, ReceivesAll}
 
 -- COUNTING
 
@@ -34,99 +35,100 @@ raised counts n e = rw e
 pub not-raised : (counts : Bool) (n : ℕ) → counts ≡ false → n ≡ n + bit counts
 not-raised counts n e = rw e (omega arith)
 
-pub all-counted : (a : Captured) (got : Received) (end t r p : ℕ)
-    → t ≡ a .taken + bit (eqb (got .refusal) 0) → r ≡ a .refused + bit (not (eqb (got .refusal) 0)) → p ≡ a .packed + bit (eqb (got .refusal) 17)
-    → record { refusal = 0; count = got .count; used = end; taken = t; refused = r; packed = p } ≡ oneMore a got end
-all-counted a got end t r p x y z = rw (x, y, z)
+pub all-counted : (c : Tally) (got : Received) (end r p : ℕ)
+    → r ≡ c .refused + bit (not (eqb (got .refusal) 0)) → p ≡ c .packed + bit (eqb (got .refusal) 17)
+    → record { count = got .count; used = end; packets = c .packets + 1; refused = r; packed = p } ≡ oneMore c got end
+all-counted c got end r p y z = rw (y, z)
 
 pub ruleset counting = (needs, raised, not-raised, all-counted)
 
 -- FRAME BY FRAME
--- Together with what is left to receive, an answer so far is the answer to the whole buffer.
+-- Together with what is left to receive, the tally so far comes to the answer to the whole buffer.
 
-pub record Progress (h : Head) (keys heard bs : List ℕ) (h′ : Head) (a : Captured) (keys′ heard′ : List ℕ) : Type 0 where
+pub record Progress (h : Head) (keys heard bs : List ℕ) (h′ : Head) (c : Tally) (keys′ heard′ : List ℕ) : Type 0 where
   pub passes : valid (tableOf h′ keys′ heard′) ≡ true
-  pub held : h′ ≡ holding (a .count) h
-  pub unrefused : a .refusal ≡ 0
-  pub within : a .used ≤ length bs
-  pub few : a .taken + a .refused ≤ a .used
-  pub among : a .packed ≤ a .refused
-  pub same : together a (receivingAll (tableOf h′ keys′ heard′) (drop (a .used) bs)) ≡ receivingAll (tableOf h keys heard) bs
+  pub held : h′ ≡ holding (c .count) h
+  pub within : c .used ≤ length bs
+  pub few : c .packets ≤ c .used
+  pub among : c .refused ≤ c .packets
+  pub fewer : c .packed ≤ c .refused
+  pub same : together (captured c) (receivingAll (tableOf h′ keys′ heard′) (drop (c .used) bs)) ≡ receivingAll (tableOf h keys heard) bs
 
-none-before : (x : Capturing) (a : Captured) → a ≡ uncounted 0 (a .count) → together a x ≡ x
-none-before x a e = rw e (λ i. record {
-      answer = record { refusal = x .answer .refusal; count = x .answer .count; used = zero (x .answer .used) i; taken = zero (x .answer .taken) i; refused = zero (x .answer .refused) i; packed = zero (x .answer .packed) i };
-      table = x .table;
-    })
+none-before : (x : Capturing) (count : ℕ) → together (captured (noneYet count)) x ≡ x
+none-before x count = λ i. record {
+  answer = record { refusal = x .answer .refusal; count = x .answer .count; used = zero (x .answer .used) i; taken = zero (x .answer .taken) i; refused = zero (x .answer .refused) i; packed = zero (x .answer .packed) i };
+  table = x .table;
+}
   where
     zero : (n : ℕ) → 0 + n ≡ n
     zero n = omega arith
 
-none-after : (u : Table) (a : Captured) → a .refusal ≡ 0 → u .head .count ≡ a .count → together a (nothingMore u) ≡ record { answer = a; table = u }
-none-after u a e n = let e′ = sym e in λ i. record {
-      answer = record { refusal = e′ i; count = n i; used = zero (a .used) i; taken = zero (a .taken) i; refused = zero (a .refused) i; packed = zero (a .packed) i };
-      table = u;
-    }
+none-after : (u : Table) (c : Tally) → u .head .count ≡ c .count → together (captured c) (nothingMore u) ≡ record { answer = captured c; table = u }
+none-after u c n = λ i. record {
+  answer = record { refusal = 0; count = n i; used = zero (c .used) i; taken = zero (c .packets - c .refused) i; refused = zero (c .refused) i; packed = zero (c .packed) i };
+  table = u;
+}
   where
     zero : (n : ℕ) → n + 0 ≡ n
     zero n = omega arith
 
 -- a frame counted with those before it, or with those after it
-one-between : (x : Capturing) (a : Captured) (got : Received) (size : ℕ)
-    → together (oneMore a got (a .used + size)) x ≡ together a (together (ofFrame size got) x)
-one-between x a got size = λ i. record {
-      answer = record {
-        refusal = x .answer .refusal;
-        count = x .answer .count;
-        used = assoc (a .used) size (x .answer .used) i;
-        taken = assoc (a .taken) (bit (takes got)) (x .answer .taken) i;
-        refused = assoc (a .refused) (bit (refuses got)) (x .answer .refused) i;
-        packed = assoc (a .packed) (bit (refusesPacked got)) (x .answer .packed) i;
-      };
-      table = x .table;
-    }
+one-between : (x : Capturing) (c : Tally) (got : Received) (size : ℕ) → c .refused ≤ c .packets
+    → together (captured (oneMore c got (c .used + size))) x ≡ together (captured c) (together (ofFrame size got) x)
+one-between x c got size among = λ i. record {
+  answer = record {
+    refusal = x .answer .refusal;
+    count = x .answer .count;
+    used = assoc (c .used) size (x .answer .used) i;
+    taken = taken (eqb (got .refusal) 0) i;
+    refused = assoc (c .refused) (bit (refuses got)) (x .answer .refused) i;
+    packed = assoc (c .packed) (bit (refusesPacked got)) (x .answer .packed) i;
+  };
+  table = x .table;
+}
   where
     assoc : (n m k : ℕ) → n + m + k ≡ n + (m + k)
     assoc n m k = omega arith
 
-at-most-one : (n : ℕ) → bit (eqb n 0) + bit (not (eqb n 0)) ≤ 1
-at-most-one n = go (eqb n 0)
-  where
-    go : (b : Bool) → bit b + bit (not b) ≤ 1
-    go true = omega arith
-    go false = omega arith
+    taken : (b : Bool) → c .packets + 1 - (c .refused + bit (not b)) + x .answer .taken ≡ c .packets - c .refused + (bit b + x .answer .taken)
+    taken true = omega arith
+    taken false = omega arith
+
+at-most-1 : (b : Bool) → bit b ≤ 1
+at-most-1 true = omega arith
+at-most-1 false = omega arith
 
 module _ (h : Head) (keys heard bs : List ℕ) where
-  pub starts : valid (tableOf h keys heard) ≡ true → (a : Captured) → a ≡ uncounted 0 (h .count) → Progress h keys heard bs h a keys heard
-  starts v a e = rw e (record {
-        passes = v;
-        held = refl;
-        unrefused = refl;
-        within = omega arith;
-        few = omega arith;
-        among = omega arith;
-        same = none-before (receivingAll (tableOf h keys heard) bs) (uncounted 0 (h .count)) refl;
-      })
+  pub starts : valid (tableOf h keys heard) ≡ true → (c : Tally) → c ≡ noneYet (h .count) → Progress h keys heard bs h c keys heard
+  starts v c e = rw e (record {
+    passes = v;
+    held = refl;
+    within = omega arith;
+    few = omega arith;
+    among = omega arith;
+    fewer = omega arith;
+    same = none-before (receivingAll (tableOf h keys heard) bs) (h .count);
+  })
 
-module _ (h : Head) (keys heard bs : List ℕ) (h′ : Head) (a : Captured) (keys′ heard′ : List ℕ) (w : Progress h keys heard bs h′ a keys′ heard′) where
-  ends : startsWhole (drop (a .used) bs) ≡ false → ReceivesAll h keys heard bs a keys′ heard′
-  ends e =
+module _ (h : Head) (keys heard bs : List ℕ) (h′ : Head) (c : Tally) (keys′ heard′ : List ℕ) (w : Progress h keys heard bs h′ c keys′ heard′) where
+  ends : startsWhole (drop (c .used) bs) ≡ false → (a : Captured) → a ≡ captured c → ReceivesAll h keys heard bs a keys′ heard′
+  ends e a is =
       let u = tableOf h′ keys′ heard′ in
-      let back : holding (a .count) h ≡ h′ = sym (w .held) in
-      let x : _≡_ {A = Capturing} (record { answer = a; table = u }) (receivingAll (tableOf h keys heard) bs)
-            = sym (none-after u a (w .unrefused) (λ i. w .held i .count)) ∙ ap (together a) (sym (all-none u (drop (a .used) bs) e)) ∙ w .same in
-      record { answer = λ i. x i .answer; table = (λ i. tableOf (back i) keys′ heard′) ∙ (λ i. x i .table) }
+      let back : holding (c .count) h ≡ h′ = sym (w .held) in
+      let x : _≡_ {A = Capturing} (record { answer = captured c; table = u }) (receivingAll (tableOf h keys heard) bs)
+      = sym (none-after u c (λ i. w .held i .count)) ∙ ap (together (captured c)) (sym (all-none u (drop (c .used) bs) e)) ∙ w .same in
+      rw is (record { answer = λ i. x i .answer; table = (λ i. tableOf (back i) keys′ heard′) ∙ (λ i. x i .table) })
 
-  pub no-more : length bs ≤ a .used → ReceivesAll h keys heard bs a keys′ heard′
-  no-more h = ends (cut-if (drop (a .used) bs) (omega (arith, length-drop (a .used) bs, at-least-2 (drop (a .used) bs))))
+  pub no-more : length bs - c .used < 2 → (a : Captured) → a ≡ captured c → ReceivesAll h keys heard bs a keys′ heard′
+  no-more h = ends (cut-if (drop (c .used) bs) (omega (arith, length-drop (c .used) bs, at-least-2 (drop (c .used) bs))))
 
-  module _ (f : Frame) (is : f ≡ frameAt bs (a .used)) where
-    pub cut : f ≡ Rest → ReceivesAll h keys heard bs a keys′ heard′
-    cut e = ends (no-whole-there bs (a .used) f is e)
+  module _ (f : Frame) (is : f ≡ frameAt bs (c .used)) where
+    pub cut : f ≡ Rest → (a : Captured) → a ≡ captured c → ReceivesAll h keys heard bs a keys′ heard′
+    cut e = ends (no-whole-there bs (c .used) f is e)
 
     module _ (start end : ℕ) (e : f ≡ Whole start end) where
-      here : WholeAt bs (a .used) start end
-      here = whole-there bs (a .used) f is start end e
+      here : WholeAt bs (c .used) start end
+      here = whole-there bs (c .used) f is start end e
 
       pub whole-ordered : start ≤ end
       whole-ordered = here .ordered
@@ -134,15 +136,15 @@ module _ (h : Head) (keys heard bs : List ℕ) (h′ : Head) (a : Captured) (key
       pub whole-within : end ≤ length bs
       whole-within = here .within
 
-      pub room-for-one : Room a end
-      room-for-one = record { few = w .few; among = w .among; more = omega (arith, here .passed) }
+      pub room-for-one : Room c end
+      room-for-one = record { few = w .few; among = w .among; fewer = w .fewer; more = omega (arith, here .passed) }
 
       -- fewer bytes come after it than from its place on
-      pub fewer-left : (b : Captured) (got : Received) → b ≡ oneMore a got end → length bs - b .used < length bs - a .used
-      fewer-left b got e = let u : b .used ≡ end = λ i. e i .used in omega (arith, u, here .passed, here .within)
+      pub fewer-left : (c′ : Tally) (got : Received) → c′ ≡ oneMore c got end → length bs - c′ .used < length bs - c .used
+      fewer-left c′ got e = let u : c′ .used ≡ end = λ i. e i .used in omega (arith, u, here .passed, here .within)
 
       abbrev left : List ℕ
-      left = drop (a .used) bs
+      left = drop (c .used) bs
 
       -- what was left to receive is this frame, and what comes after it
       next : (got : Received) (u : Table) → got ≡ receive (tableOf h′ keys′ heard′) (take (end - start) (drop start bs)) .answer
@@ -151,20 +153,20 @@ module _ (h : Head) (keys heard bs : List ℕ) (h′ : Head) (a : Captured) (key
       next got u x y = rw (x, y, here .packet, here .after) (sym (all-first (tableOf h′ keys′ heard′) left (here .whole)))
 
       pub one-more-frame : (got : Received) (keys″ heard″ : List ℕ)
-          → Receives h′ keys′ heard′ (take (end - start) (drop start bs)) got keys″ heard″ → (b : Captured) → b ≡ oneMore a got end
-          → Progress h keys heard bs (holding (got .count) h′) b keys″ heard″
-      one-more-frame got keys″ heard″ r b q =
+          → Receives h′ keys′ heard′ (take (end - start) (drop start bs)) got keys″ heard″ → (c′ : Tally) → c′ ≡ oneMore c got end
+          → Progress h keys heard bs (holding (got .count) h′) c′ keys″ heard″
+      one-more-frame got keys″ heard″ r c′ q =
           let u = tableOf (holding (got .count) h′) keys″ heard″ in
-          let both : together (oneMore a got end) (receivingAll u (drop end bs)) ≡ receivingAll (tableOf h keys heard) bs
-                = ap (λ (n : ℕ). together (oneMore a got n) (receivingAll u (drop end bs))) (here .size)
-                ∙ one-between (receivingAll u (drop end bs)) a got (frameSize left) ∙ ap (together a) (next got u (r .answer) (r .table)) ∙ w .same in
+          let both : together (captured (oneMore c got end)) (receivingAll u (drop end bs)) ≡ receivingAll (tableOf h keys heard) bs
+          = ap (λ (n : ℕ). together (captured (oneMore c got n)) (receivingAll u (drop end bs))) (here .size)
+          ∙ one-between (receivingAll u (drop end bs)) c got (frameSize left) (w .among) ∙ ap (together (captured c)) (next got u (r .answer) (r .table)) ∙ w .same in
           rw q (record {
             passes = r .passes;
             held = λ i. holding (got .count) (w .held i);
-            unrefused = refl;
             within = here .within;
-            few = omega (arith, at-most-one (got .refusal), w .few, here .passed);
-            among = omega (arith, packed-once (got .refusal), w .among);
+            few = omega (arith, w .few, here .passed);
+            among = omega (arith, at-most-1 (refuses got), w .among);
+            fewer = omega (arith, packed-once (got .refusal), w .fewer);
             same = both;
           })
 

@@ -1,5 +1,5 @@
--- The steps of receiving a capture: an answer with nothing counted, one frame more, and the whole frames of a buffer.
-use Prim.Native.Nat.{ℕ, _+_, _<_, _≤_}
+-- The steps of receiving a capture: an answer with nothing counted, a tally of frames, and the whole frames of a buffer.
+use Prim.Native.Nat.{ℕ, _+_, _-_, _<_, _≤_}
 use mathlib.Core.Path.{_≡_}
 use mathlib.Core.List.{List}
 use Rattle.model.specs.declared.Head.{Head}
@@ -9,26 +9,43 @@ use Rattle.model.specs.Refusals.{none}
 use Rattle.model.specs.Packet.{bit}
 use Rattle.model.specs.Table.{tableOf, holding}
 use Rattle.model.specs.Receive.{refuses}
-use Rattle.model.specs.Capture.{takes, refusesPacked, receivingAll}
+use Rattle.model.specs.Capture.{refusesPacked, receivingAll}
+use Rattle.capture.specs.declared.Tally.{Tally}
 
 abbrev pub uncounted : ℕ → ℕ → Captured
 uncounted refusal count = record { refusal = refusal; count = count; used = 0; taken = 0; refused = 0; packed = 0 }
 
--- the counts are no larger than the bytes used are many, and the frame has a byte at least
-pub record Room (a : Captured) (end : ℕ) : Type 0 where
-  pub few : a .taken + a .refused ≤ a .used
-  pub among : a .packed ≤ a .refused
-  pub more : a .used < end
+-- THE TALLY
 
-abbrev pub oneMore : Captured → Received → ℕ → Captured
-oneMore a got end = record {
-  refusal = none;
+abbrev pub noneYet : ℕ → Tally
+noneYet count = record { count = count; used = 0; packets = 0; refused = 0; packed = 0 }
+
+abbrev pub oneMore : Tally → Received → ℕ → Tally
+oneMore c got end = record {
   count = got .count;
   used = end;
-  taken = a .taken + bit (takes got);
-  refused = a .refused + bit (refuses got);
-  packed = a .packed + bit (refusesPacked got);
+  packets = c .packets + 1;
+  refused = c .refused + bit (refuses got);
+  packed = c .packed + bit (refusesPacked got);
 }
+
+-- the answer that it comes to: those not refused were taken
+abbrev pub captured : Tally → Captured
+captured c = record {
+  refusal = none;
+  count = c .count;
+  used = c .used;
+  taken = c .packets - c .refused;
+  refused = c .refused;
+  packed = c .packed;
+}
+
+-- no count is larger than the bytes used are many, and the next frame has a byte at least
+pub record Room (c : Tally) (end : ℕ) : Type 0 where
+  pub few : c .packets ≤ c .used
+  pub among : c .refused ≤ c .packets
+  pub fewer : c .packed ≤ c .refused
+  pub more : c .used < end
 
 -- the call on a table that passes the tests answers what the model says, and leaves the table that the model says
 pub record ReceivesAll (h : Head) (keys heard bs : List ℕ) (a : Captured) (keys′ heard′ : List ℕ) : Type 0 where

@@ -5,7 +5,7 @@ ghost use mathlib.Core.Bool.{true};
 ghost use Rattle.model.specs.Packet.{bit};
 ghost use Rattle.model.specs.Table.{tableOf, holding, valid};
 ghost use Rattle.model.specs.Capture.{receiveCapture};
-ghost use Rattle.capture.specs.Steps.{uncounted, Room, oneMore, ReceivesAll};
+ghost use Rattle.capture.specs.Steps.{uncounted, noneYet, Room, oneMore, captured, ReceivesAll};
 use framing::Frame;
 use framing::frame_at;
 use model::Captured;
@@ -27,6 +27,27 @@ fn uncounted(refusal: u8, count: usize) -> Captured
     }
 }
 
+// What has been received of a buffer: the segments held, the bytes used, the packets, those refused, and those refused with 17.
+struct Tally {
+    count: usize,
+    used: usize,
+    packets: usize,
+    refused: usize,
+    packed: usize,
+}
+
+fn none_yet(count: usize) -> Tally
+    ensures { λ r. ⌜ r ≡ noneYet count ⌝ }
+{
+    Tally {
+        count: count,
+        used: 0,
+        packets: 0,
+        refused: 0,
+        packed: 0,
+    }
+}
+
 // A count, which one packet more raises if it is one of those counted.
 fn raised_if(counts: bool, n: usize) -> usize
     requires { ⌜ n < 0xffff_ffff_ffff_ffff ⌝ }
@@ -38,18 +59,32 @@ fn raised_if(counts: bool, n: usize) -> usize
     n
 }
 
-// The answer after one frame more, by where it ends and what its packet was answered.
-fn one_more(so_far: Captured, got: Received, end: usize) -> Captured
+// The tally after one frame more, by where it ends and what its packet was answered.
+fn one_more(so_far: Tally, got: Received, end: usize) -> Tally
     requires { ⌜ Room «so_far» end ⌝ }
     ensures { λ r. ⌜ r ≡ oneMore «so_far» got end ⌝ }
 {
-    Captured {
-        refusal: 0,
+    Tally {
         count: got.count,
         used: end,
-        taken: raised_if(got.refusal == 0, so_far.taken),
+        packets: so_far.packets + 1,
         refused: raised_if(got.refusal != 0, so_far.refused),
         packed: raised_if(got.refusal == model::PACKED as u64, so_far.packed),
+    }
+}
+
+// The answer that a tally comes to.
+fn captured(t: Tally) -> Captured
+    requires { ⌜ t .refused ≤ t .packets ⌝ }
+    ensures { λ r. ⌜ r ≡ captured t ⌝ }
+{
+    Captured {
+        refusal: 0,
+        count: t.count,
+        used: t.used,
+        taken: t.packets - t.refused,
+        refused: t.refused,
+        packed: t.packed,
     }
 }
 
@@ -64,17 +99,17 @@ fn receive_frames(
     ensures { λ r. ⌜ ReceivesAll head (now (keys .entry)) (now (heard .entry)) (now (frames .entry)) r (now (keys .exit)) (now (heard .exit)) ⌝ }
 {
     let mut after = head;
-    let mut answer = uncounted(0, head.count);
-    while answer.used < frames.len() {
-        let f = frame_at(frames, answer.used);
+    let mut tally = none_yet(head.count);
+    while 2 <= frames.len() - tally.used {
+        let f = frame_at(frames, tally.used);
         let Frame::Whole { start, end } = f else {
-            return answer;
+            return captured(tally);
         };
         let got = receive_valid(after, keys, heard, &frames[start..end]);
         after.count = got.count;
-        answer = one_more(answer, got, end);
+        tally = one_more(tally, got, end);
     }
-    answer
+    captured(tally)
 }
 
 // Receives the packets of a buffer's whole frames one after another, tells how many were taken and how many refused, and how many

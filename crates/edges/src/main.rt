@@ -1,4 +1,5 @@
 // Runs both sides of each edge of document 01 and prints a line for each; the file stdout has what must come.
+mod captures;
 mod lists;
 mod packets;
 mod plans;
@@ -11,5 +12,6 @@ fn main() {
     plans::run();
     tables::run();
     probes::run();
+    captures::run();
     lists::run();
 }

@@ -1,6 +1,6 @@
 -- Each way through the definition of a frame at a place, as a law over a buffer and its places.
 use Prim.Native.Nat.{ℕ, _+_, _-_, _*_, _≤_, _<_}
-use mathlib.Core.Path.{_≡_, refl, sym, _∙_, ap}
+use mathlib.Core.Path.{_≡_, refl, sym, _∙_}
 use mathlib.Core.Bool.{Bool, true, false, cond}
 use mathlib.Core.List.{List}
 use native.Mathlib.Omega.{arith}
@@ -23,13 +23,10 @@ module _ (bs : List ℕ) (at : ℕ) where
   unfolding frameAt
   none-whole h = rw (cut-if (drop at bs) (omega (arith, length-drop at bs)))
 
-  pub nothing-there : length bs ≤ at → Rest ≡ frameAt bs at
-  nothing-there h = none-whole (omega (arith, size-there))
-
   pub length-cut : length bs - at < 2 → Rest ≡ frameAt bs at
   length-cut h = none-whole (omega (arith, size-there))
 
-  module _ (some : at < length bs) (two : 2 ≤ length bs - at) (x y : ℕ) (high : x ≡ byte bs at) (low : y ≡ byte bs (at + 1)) where
+  module _ (two : 2 ≤ length bs - at) (x y : ℕ) (high : x ≡ byte bs at) (low : y ≡ byte bs (at + 1)) where
     pub packet-cut : length bs - at - 2 < x * 256 + y → Rest ≡ frameAt bs at
     packet-cut h = none-whole (omega (arith, size-there, high, low))
 
@@ -85,4 +82,4 @@ module _ (bs : List ℕ) (at : ℕ) where
       go false x = refl
       go true x = let u : _≡_ {A = ℕ} 0 1 = cc in absurd (omega (arith, u))
 
-pub ruleset framing = (needs, nothing-there, length-cut, packet-cut, packet-whole)
+pub ruleset framing = (needs, length-cut, packet-cut, packet-whole)

@@ -1,6 +1,7 @@
 // One RFC 4571 frame in a buffer.
 ghost use mathlib.Core.Path.{_≡_};
 ghost use Prim.Native.Nat.{_≤_};
+ghost use lib.ListN.{length};
 ghost use Rattle.framing.specs.Frame.{frameAt};
 
 // What stands at a place of a buffer: a whole frame, whose packet goes from `start` up to `end`; or the rest, which has none at its
@@ -18,13 +19,10 @@ fn wide(b: u8) -> usize
 
 // Tells what stands at a place of a buffer.
 pub fn frame_at(s: &[u8], at: usize) -> Frame
+    requires { ⌜ at ≤ length (now s) ⌝ }
     ensures { λ r. ⌜ r ≡ frameAt (now (s .entry)) at ⌝ }
 {
-    let n = s.len();
-    if n <= at {
-        return Frame::Rest;
-    }
-    let left = n - at;
+    let left = s.len() - at;
     if left < 2 {
         return Frame::Rest;
     }

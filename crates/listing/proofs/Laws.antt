@@ -1,12 +1,12 @@
 -- The input in pieces: each piece received on the table of those before it, and all of them together as one call.
 use Prim.Native.Nat.{ℕ, _+_, _-_, _%_, _^_, _≤_, _<_}
-use mathlib.Core.Path.{_≡_, refl, sym, _∙_, ap}
-use mathlib.Core.Bool.{Bool, true}
+use mathlib.Core.Path.{_≡_, sym, _∙_, ap}
+use mathlib.Core.Bool.{true}
 use mathlib.Core.List.{List, [], _∷_, _++_, append-assoc, append-nil, List·Memᴰ·not-nil, List·Memᴰ·append-cases, Memᴰ·append-right}
 use mathlib.Core.Logic.{⊎-elim}
 use native.Mathlib.Omega.{arith}
 use borrow.Author.Needs.{needs}
-use lib.ListN.{length, getD, take, drop, length-take}
+use lib.ListN.{length, getD, take, drop}
 use lib.Seq.{length-take-le, take-add, drop-append-le, drop-drop}
 use mir.Val.{Fits}
 use mir.Syntax.{w8}
@@ -83,10 +83,10 @@ modulo x y = omega arith
 
 counted-added : (a b : Captured) → added (counted a) b ≡ record { taken = (a .taken + b .taken) % 2 ^ 64; refused = (a .refused + b .refused) % 2 ^ 64; packed = (a .packed + b .packed) % 2 ^ 64 }
 counted-added a b = λ i. record {
-      taken = modulo (a .taken) (b .taken) i;
-      refused = modulo (a .refused) (b .refused) i;
-      packed = modulo (a .packed) (b .packed) i;
-    }
+  taken = modulo (a .taken) (b .taken) i;
+  refused = modulo (a .refused) (b .refused) i;
+  packed = modulo (a .packed) (b .packed) i;
+}
 
 -- what has been received of an input, with the buffer as it is
 pub record Stands (t : Table) (input : List ℕ) (s : SoFar) (keys heard b : List ℕ) : Type 0 where

@@ -39,17 +39,17 @@ module _ (b₀ : List ℕ) (at n : ℕ) where
         let here : at + k ≡ i = omega (arith, w .begun) in
         let there : i + 1 - at ≡ suc k = omega (arith, w .begun) in
         let byte : x ≡ getD (drop at b₀) k 0 =
-            e ∙ sym (first-from i b) ∙ ap (λ (l : List ℕ). getD l 0 0) (w .ahead) ∙ first-from i b₀
-            ∙ ap (λ (j : ℕ). getD b₀ j 0) (sym here) ∙ sym (getD-drop at b₀ k 0) in
+        e ∙ sym (first-from i b) ∙ ap (λ (l : List ℕ). getD l 0 0) (w .ahead) ∙ first-from i b₀
+        ∙ ap (λ (j : ℕ). getD b₀ j 0) (sym here) ∙ sym (getD-drop at b₀ k 0) in
         record {
           begun = omega (arith, w .begun);
           within = omega arith;
           room = omega (arith, length-set b k x, w .room);
           same = length-set b k x ∙ w .same;
           moved = rw there (
-            take-suc-set b k x (omega (arith, w .room))
-            ∙ (λ j. w .moved j ++ (byte j ∷ []))
-            ∙ sym (take-suc (drop at b₀) k 0 (omega (arith, length-drop at b₀, w .same, w .room))));
+              take-suc-set b k x (omega (arith, w .room))
+              ∙ (λ j. w .moved j ++ (byte j ∷ []))
+              ∙ sym (take-suc (drop at b₀) k 0 (omega (arith, length-drop at b₀, w .same, w .room))));
           ahead = drop-set-lt (i + 1) b k x (omega arith) ∙ sym (drop-drop 1 i b) ∙ ap (drop 1) (w .ahead) ∙ drop-drop 1 i b₀;
         }
 

@@ -57,7 +57,13 @@ fn keep(b: &mut [u8], at: usize, n: usize) -> usize
 }
 
 // Receives the buffer's first n bytes, and moves those that were not used to its front.
-fn go_on(so_far: SoFar, keys: &mut [u64; 128], heard: &mut [u32; 128], b: &mut [u8], n: usize) -> SoFar
+fn go_on(
+    so_far: SoFar,
+    keys: &mut [u64; 128],
+    heard: &mut [u32; 128],
+    b: &mut [u8],
+    n: usize,
+) -> SoFar
     requires { ⌜ n ≤ length (now b) ⌝ }
     ensures { λ r. ⌜ GoesOn «so_far» (now (keys .entry)) (now (heard .entry)) (now (b .entry)) n r (now (keys .exit)) (now (heard .exit)) (now (b .exit)) ⌝ }
 {

@@ -5,7 +5,7 @@ use mathlib.Core.Bool.{Bool, true, false, not, cond, false≢true}
 use mathlib.Core.List.{List, [], _∷_, _++_, List·Memᴰ·head, List·Memᴰ·tail, List·Memᴰ·cases-cons, List·Memᴰ·not-nil}
 use mathlib.Core.Logic.{⊎-elim}
 use native.Mathlib.Omega.{arith}
-use lib.ListN.{length, take, drop, length-append}
+use lib.ListN.{length, drop, length-append}
 use lib.Dec.{eqb}
 use borrow.Author.Tests.{ne-eqb}
 use Rattle.model.specs.declared.Table.{Table}
@@ -20,9 +20,9 @@ use Rattle.model.specs.Capture.{howMany, takes, refusesPacked, Capturing
 use Rattle.model.specs.Demands.{Call, packet, capture, afterCall, tableAfterCalls, packetsOf, handedOver, As-one-by-one, Demand-3-with-captures}
 use Rattle.model.proofs.Basics.{Mem}
 use Rattle.model.proofs.Packets.{fits-parts}
-use Rattle.model.proofs.Receives.{taken-then, refused-leaves, taken-unless, takes as puts}
+use Rattle.model.proofs.Receives.{taken-then, refused-leaves, taken-unless}
 use Rattle.model.proofs.Runs.{stays-valid}
-use Rattle.model.proofs.Frames.{too-few, none-first, one-first, used-none, used-first, length-first, fit-after, frame-by-frame, packets-in-pieces, used-in-pieces, used-within, rest-short}
+use Rattle.model.proofs.Frames.{too-few, none-first, one-first, used-none, used-first, fit-after, frame-by-frame, packets-in-pieces, used-in-pieces, used-within, rest-short}
 use Rattle.model.proofs.InBytes.{demand-3-in-bytes}
 
 -- LISTS OF CALLS

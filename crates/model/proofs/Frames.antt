@@ -1,11 +1,11 @@
 -- What a buffer of frames holds: its packets one by one, their frames cut again, and a buffer that comes in pieces.
-use Prim.Native.Nat.{ℕ, zero, suc, _+_, _-_, _*_, _/_, _%_, _≤_, _<_}
+use Prim.Native.Nat.{ℕ, zero, suc, _+_, _-_, _≤_, _<_}
 use mathlib.Core.Path.{_≡_, refl, sym, _∙_, ap}
-use mathlib.Core.Bool.{Bool, true, false, cond}
+use mathlib.Core.Bool.{Bool, true, false}
 use mathlib.Core.List.{List, [], _∷_, _++_, append-assoc, append-nil, List·Memᴰ·head, List·Memᴰ·tail, List·Memᴰ·cases-cons, List·Memᴰ·not-nil}
 use mathlib.Core.Logic.{⊎-elim}
 use native.Mathlib.Omega.{arith}
-use lib.ListN.{length, getD, take, drop, length-append, take-append-drop, length-drop, List·getD-append}
+use lib.ListN.{length, take, drop, length-append, take-append-drop, length-drop, List·getD-append}
 use lib.Seq.{length-take-le, take-append-le, take-append-seam, drop-append-le, drop-append-seam, drop-drop}
 use borrow.Author.Tests.{leb-true, leb-false, le-leb, lt-leb}
 use Rattle.model.specs.Packet.{byte, number16, bytes16}
@@ -288,9 +288,10 @@ pub holds : (bs : List ℕ) → BytesFit bs → Holds bs (packetsIn bs) (rest bs
 holds bs f = record { framed = holds-framed bs f; short = holds-short bs f; cut = rest-cut bs }
 
 pub nothing-else : (bs : List ℕ) (ps : List (List ℕ)) (left : List ℕ) → Holds bs ps left → (ps ≡ packetsIn bs) × (left ≡ rest bs)
-nothing-else bs ps left h =
-    (sym (ap packetsIn (h .framed) ∙ packets-again ps left (h .short) ∙ ap (λ (qs : List (List ℕ)). ps ++ qs) (none-first left (h .cut)) ∙ append-nil ps),
-    sym (ap rest (h .framed) ∙ rest-again ps left (h .short) ∙ rest-none left (h .cut)))
+nothing-else bs ps left h = (
+  sym (ap packetsIn (h .framed) ∙ packets-again ps left (h .short) ∙ ap (λ (qs : List (List ℕ)). ps ++ qs) (none-first left (h .cut)) ∙ append-nil ps),
+  sym (ap rest (h .framed) ∙ rest-again ps left (h .short) ∙ rest-none left (h .cut)),
+)
 
 -- less than the longest frame is left
 pub rest-short : (bs : List ℕ) → BytesFit bs → length (rest bs) < 65537

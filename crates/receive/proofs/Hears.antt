@@ -1,22 +1,20 @@
 -- Hearing a payload: each way through it, and what its answer says of the payload.
 use Prim.Native.Nat.{ℕ, _+_, _*_, _≤_, _<_}
 use mathlib.Core.Path.{_≡_, _∙_, ap}
-use mathlib.Core.Bool.{Bool, false}
+use mathlib.Core.Bool.{Bool}
 use mathlib.Core.List.{List}
 use native.Mathlib.Omega.{arith}
 use borrow.Author.Needs.{needs}
-use borrow.Author.Tests.{eqb-true, le-leb, lt-leb}
-use lib.Dec.{eqb}
+use borrow.Author.Tests.{le-leb, lt-leb}
 use Rattle.model.specs.Packet.{bit, payloadRefusal}
-use Rattle.model.specs.Table.{keyOf, heardOf}
 use Rattle.model.specs.Receive.{offset}
 use Rattle.packet.specs.declared.payload.Payload.{Payload}
 use Rattle.packet.specs.declared.payload.Payload.the-variants as payload
 use Rattle.packet.specs.Stages.{payloadOf, refusalOfPayload}
-use Rattle.packet.proofs.Laws.{chose-second, chose-first, Reported, reported-says, unreported-says}
+use Rattle.packet.proofs.Laws.{Reported, reported-says, unreported-says}
 use Rattle.receive.specs.declared.hearing.Hearing.{Hearing}
 use Rattle.receive.specs.declared.hearing.Hearing.the-variants as hearing
-use Rattle.receive.specs.Sayings.{saying, sayingRefusal, hearingOf}
+use Rattle.receive.specs.Sayings.{sayingRefusal, hearingOf}
 
 -- THE WAYS THROUGH
 
@@ -44,25 +42,3 @@ module _ (origin time : ℕ) (m : Bool) (p : List ℕ) (read : Payload) (stage :
         rw (says .unrefused, not-far, k, t, at, says .code-is, says .end-is, says .volume-is, says .duration-is)
 
 pub ruleset hears = (needs, no-report, too-far, all-heard)
-
--- WHAT AN ANSWER SAYS
-
-module _ (origin time : ℕ) (m : Bool) (p : List ℕ) (said : Hearing) (stage : said ≡ hearingOf origin time m p) where
-  abbrev a-saying : Hearing
-  a-saying = hearing.Heard (keyOf (saying origin time m p)) (heardOf (saying origin time m p))
-
-  abbrev no-saying : Hearing
-  no-saying = hearing.Refused (sayingRefusal origin time p)
-
-  pub unheard-says : (n : ℕ) → said ≡ hearing.Refused n → (eqb (sayingRefusal origin time p) 0 ≡ false) × (n ≡ sayingRefusal origin time p)
-  unfolding hearingOf
-  unheard-says n x =
-      let s = chose-second (eqb (sayingRefusal origin time p) 0) a-saying no-saying said stage (λ w. cc) in
-      (s .0, cc)
-
-  pub heard-says : (key told : ℕ) → said ≡ hearing.Heard key told
-      → (sayingRefusal origin time p ≡ 0) × (key ≡ keyOf (saying origin time m p)) × (told ≡ heardOf (saying origin time m p))
-  unfolding hearingOf
-  heard-says key told x =
-      let s = chose-first (eqb (sayingRefusal origin time p) 0) a-saying no-saying said stage (λ w. cc) in
-      (eqb-true (sayingRefusal origin time p) 0 (s .0), cc, cc)

@@ -1,20 +1,17 @@
--- Each way through the receiving call, as a law over a head, two columns and a packet's bytes.
-use Prim.Native.Nat.{ℕ, suc, _-_, _≤_}
+-- The receiving calls: 16, and the three steps together, as laws over a head, two columns and a packet's bytes.
+use Prim.Native.Nat.{ℕ, zero, suc, _≤_}
 use mathlib.Core.Path.{_≡_, refl, sym, _∙_, ap}
 use mathlib.Core.Bool.{Bool, true, false, not, cond}
-use mathlib.Core.List.{List, [], _∷_, List·Memᴰ·cases-cons, List·Memᴰ·not-nil}
-use mathlib.Core.Logic.{⊎-elim}
+use mathlib.Core.List.{List}
 use native.Mathlib.Omega.{arith}
 use borrow.Author.Needs.{needs}
-use borrow.Author.Tests.{eq-eqb, ne-eqb, leb-true, not-true, not-false}
+use borrow.Author.Tests.{eqb-true, ne-eqb, leb-true, not-true, not-false}
 use lib.Dec.{eqb}
-use lib.ListN.{getD, take, drop}
-use mir.Val.{Fits}
-use mir.Syntax.{w8}
 use Rattle.model.specs.declared.Table.{Table}
 use Rattle.model.specs.declared.Head.{Head}
 use Rattle.model.specs.declared.Received.{Received}
-use Rattle.model.specs.Packet.{headerRefusal, payloadRefusal, payload, marker, payloadType, timestamp, ssrc, code}
+use Rattle.model.specs.Refusals.{_orElse_}
+use Rattle.model.specs.Packet.{headerRefusal, payloadRefusal, payload, payloadType, timestamp, ssrc, code}
 use Rattle.model.specs.Search.{search}
 use Rattle.model.specs.Table.{keyOf, heardOf, segmentOf, held, tableOf, holding, valid, noRoom}
 use Rattle.model.specs.Receive.{refusedWith, refusing, taken, heardIn, refusedBefore, receiveRefusal, probes, receive}
@@ -24,16 +21,11 @@ use Rattle.model.proofs.Packets.{bytes-fit, read-in-range}
 use Rattle.model.proofs.Numbers.{segment-back}
 use Rattle.model.proofs.Looks.{looks-at-8}
 use Rattle.model.proofs.Runs.{stays-valid}
-use Rattle.packet.specs.declared.header.Header.{Header}
-use Rattle.packet.specs.Stages.{headerOf, refusalOfHeader}
-use Rattle.packet.proofs.Laws.{Found, found-says, refused-says, payload-there, header-whole, starts-before-end, ends-within}
-use Rattle.packet.specs.declared.header.Header.the-variants as header
-use Rattle.table.specs.Columns.{Takes, takenInto}
+use Rattle.table.specs.Columns.{takenInto}
 use Rattle.receive.specs.declared.hearing.Hearing.{Hearing}
-use Rattle.receive.specs.declared.hearing.Hearing.the-variants as hearing
-use Rattle.receive.specs.Sayings.{sayingRefusal, hearingOf, refusalOfHearing}
+use Rattle.receive.specs.Sayings.{sayingRefusal, hearingOf}
+use Rattle.receive.specs.Steps.{refusalFor, hearingIn, takenHeard, TakesHeard}
 use Rattle.receive.specs.Receives.{Receives}
-use Rattle.receive.proofs.Hears.{unheard-says, heard-says}
 
 -- 16
 
@@ -53,120 +45,81 @@ module _ (h : Head) (keys heard bs : List ℕ) (b : Bool) (is : b ≡ valid (tab
     pub none-looked-at : a .probes ≤ 8
     none-looked-at = rw e (omega arith)
 
-within-8 : (t : Table) (bs : List ℕ) (a : Received) → a ≡ receive t bs .answer → a .probes ≤ 8
-within-8 t bs a e = rw e (looks-at-8 t bs)
-
 pub passed : (t : Table) (b : Bool) → b ≡ valid t → not b ≡ false → valid t ≡ true
 passed t b is ok = sym is ∙ not-false b ok
 
--- 1 TO 11
+-- ALL THREE STEPS
 
-module _ (h : Head) (keys heard bs : List ℕ) (v : valid (tableOf h keys heard) ≡ true) where
+-- two stages of refusals, or one
+in-stages : (n : ℕ) (a b : Bool) (m : ℕ) → cond (eqb n 0) (cond a 5 (cond b 6 m)) n ≡ (cond (eqb n 0) (cond a 5 (cond b 6 0)) n orElse m)
+in-stages zero true b m = refl
+in-stages zero false true m = refl
+in-stages zero false false m = refl
+in-stages (suc n) a b m = rw (ne-eqb (suc n) 0 (omega arith), ne-eqb (suc n) 0 (omega arith))
+
+module _ (h : Head) (keys heard bs : List ℕ) (v : valid (tableOf h keys heard) ≡ true) (fit : BytesFit bs) where
   abbrev t : Table
   t = tableOf h keys heard
 
-  before-all : (n : ℕ) → refusedBefore t bs ≡ n → eqb n 0 ≡ false → receiveRefusal t bs ≡ n
-  unfolding receiveRefusal
-  before-all n q z = rw (q, z)
+  abbrev said-refusal : ℕ
+  said-refusal = sayingRefusal (h .origin) (timestamp bs) (payload bs)
 
-  refused : (n : ℕ) → refusedBefore t bs ≡ n → eqb n 0 ≡ false → (a : Received) → a ≡ refusedWith n (h .count) 0 → Receives h keys heard bs a keys heard
-  unfolding receive probes
-  refused n q z a e =
-      let s : a ≡ receive t bs .answer = rw (before-all n q z, q, z) e in
-      record { answer = s; table = rw (before-all n q z, z, e); passes = rw e v; bounded = within-8 t bs a s }
+  before : refusedBefore t bs ≡ (refusalFor h bs orElse said-refusal)
+  unfolding refusedBefore refusalFor sayingRefusal heardIn
+  before = rw v (in-stages (headerRefusal bs) (not (eqb (payloadType bs) (h .«payload_type»))) (not (eqb (ssrc bs) (h .ssrc))) said-refusal)
 
-  module _ (f : Header) (stage : f ≡ headerOf bs) where
-    pub unread : (n : ℕ) → f ≡ header.Refused n → (k : ℕ) → k ≡ refusalOfHeader f → (a : Received) → a ≡ refusedWith k (h .count) 0
-        → Receives h keys heard bs a keys heard
-    unfolding refusedBefore
-    unread n r k e a is =
-        let s = refused-says bs f stage n r in
-        let same : k ≡ headerRefusal bs = e ∙ ap refusalOfHeader r ∙ s .1 in
-        refused (headerRefusal bs) (rw (v, s .0)) (s .0) a (is ∙ ap (λ (m : ℕ). refusedWith m (h .count) 0) same)
+  -- refused before the search, by the number n
+  refuses-it : (n : ℕ) → refusedBefore t bs ≡ n → eqb n 0 ≡ false → refusing n t 0 ≡ receive t bs
+  unfolding receive receiveRefusal probes
+  refuses-it n q z = rw (q, z, z)
 
-    module _ (start end : ℕ) (r : f ≡ header.Found start end) (type : ℕ) (is-type : type ≡ payloadType bs) where
-      found : Found bs start end
-      found = found-says bs f stage start end r
+  -- or by none
+  module _ (none : refusedBefore t bs ≡ 0) where
+    to-the-table : receive t bs ≡ takenInto t (heardIn t bs)
+    unfolding receive receiveRefusal probes takenInto
+    to-the-table = rw none (go (noRoom t (heardIn t bs)))
+      where
+        looked : ℕ
+        looked = search (heardIn t bs) (held t) .probes
 
-      pub other-type : (type ≡ h .«payload_type» → ⊥) → (a : Received) → a ≡ refusedWith 5 (h .count) 0 → Receives h keys heard bs a keys heard
-      unfolding refusedBefore
-      other-type n = refused 5 (rw (v, found .unrefused, ne-eqb (payloadType bs) (h .«payload_type») (λ e. n (is-type ∙ e)))) refl
+        go : (b : Bool) → cond (eqb (cond b 11 0) 0) (taken t (heardIn t bs) looked) (refusing (cond b 11 0) t looked)
+            ≡ cond b (refusing 11 t looked) (taken t (heardIn t bs) looked)
+        go true = refl
+        go false = refl
 
-      module _ (of-type : type ≡ h .«payload_type») (from : ℕ) (is-source : from ≡ ssrc bs) where
-        right-type : eqb (payloadType bs) (h .«payload_type») ≡ true
-        right-type = eq-eqb (payloadType bs) (h .«payload_type») (sym is-type ∙ of-type)
+    same-report : said-refusal ≡ 0 → segmentOf (keyOf (heardIn t bs)) (heardOf (heardIn t bs)) ≡ heardIn t bs
+    unfolding sayingRefusal heardIn
+    same-report z =
+        let q = read-in-range bs fit (both-none (payloadRefusal (payload bs)) _ z .0) in
+        segment-back (heardIn t bs) (omega (arith, leb-true (code (payload bs)) 15 (q .0))) (omega (arith, q .2))
 
-        pub other-source : (from ≡ h .ssrc → ⊥) → (a : Received) → a ≡ refusedWith 6 (h .count) 0 → Receives h keys heard bs a keys heard
-        unfolding refusedBefore
-        other-source n = refused 6 (rw (v, found .unrefused, right-type, ne-eqb (ssrc bs) (h .ssrc) (λ e. n (is-source ∙ e)))) refl
+  -- what is heard in a packet and then taken is what the model receives
+  step : takenHeard t (hearingIn h bs) ≡ receive t bs
+  unfolding hearingIn hearingOf heardIn payload
+  step = go (eqb (refusalFor h bs) 0) (eqb said-refusal 0) refl refl
+    where
+      go : (a b : Bool) → eqb (refusalFor h bs) 0 ≡ a → eqb said-refusal 0 ≡ b → takenHeard t (hearingIn h bs) ≡ receive t bs
+      go false b x y = rw x (refuses-it (refusalFor h bs) (before ∙ rw x) x)
+      go true false x y = rw (x, y) (refuses-it said-refusal (before ∙ rw x) y)
+      go true true x y =
+          let z : said-refusal ≡ 0 = eqb-true said-refusal 0 y in
+          let none : refusedBefore t bs ≡ 0 = before ∙ rw x z in
+          rw (x, y) (ap (takenInto t) (same-report none z) ∙ sym (to-the-table none))
 
-        -- the packet is the table's; what does its payload say?
-        module _ (of-source : from ≡ h .ssrc) (time : ℕ) (is-time : time ≡ timestamp bs) (m : Bool) (is-m : m ≡ marker bs)
-            (said : Hearing) (stage-2 : said ≡ hearingOf (h .origin) time m (take (end - start) (drop start bs))) where
-          right-source : eqb (ssrc bs) (h .ssrc) ≡ true
-          right-source = eq-eqb (ssrc bs) (h .ssrc) (sym is-source ∙ of-source)
+  module _ (said : Hearing) (stage : said ≡ hearingIn h bs) (a : Received) (keys′ heard′ : List ℕ) (e : TakesHeard h keys heard said a keys′ heard′) where
+    both : takenHeard t said ≡ receive t bs
+    both = ap (takenHeard t) stage ∙ step
 
-          heard-there : said ≡ hearingOf (h .origin) (timestamp bs) (marker bs) (payload bs)
-          heard-there = stage-2 ∙ rw (payload-there bs f stage start end r, is-time, is-m)
+    pub answered : a ≡ receive t bs .answer
+    answered = e .answer ∙ (λ i. both i .answer)
 
-          abbrev saying-number : ℕ
-          saying-number = sayingRefusal (h .origin) (timestamp bs) (payload bs)
+    pub received : tableOf (holding (a .count) h) keys′ heard′ ≡ receive t bs .table
+    received = e .table ∙ (λ i. both i .table)
 
-          by-saying : refusedBefore t bs ≡ saying-number
-          unfolding refusedBefore sayingRefusal heardIn
-          by-saying = rw (v, found .unrefused, right-type, right-source)
+    pub bounded : a .probes ≤ 8
+    bounded = rw answered (looks-at-8 t bs)
 
-          pub says-nothing : (n : ℕ) → said ≡ hearing.Refused n → (k : ℕ) → k ≡ refusalOfHearing said → (a : Received) → a ≡ refusedWith k (h .count) 0
-              → Receives h keys heard bs a keys heard
-          says-nothing n x k e a is =
-              let s = unheard-says (h .origin) (timestamp bs) (marker bs) (payload bs) said heard-there n x in
-              let same : k ≡ saying-number = e ∙ ap refusalOfHearing x ∙ s .1 in
-              refused saying-number by-saying (s .0) a (is ∙ ap (λ (m : ℕ). refusedWith m (h .count) 0) same)
+    pub receives : Receives h keys heard bs a keys′ heard′
+    receives = record { answer = answered; table = received; passes = ap valid received ∙ stays-valid t bs v fit; bounded = bounded }
 
-          -- nothing before the table refuses it
-          module _ (key told : ℕ) (x : said ≡ hearing.Heard key told) (fit : BytesFit bs) where
-            says : (saying-number ≡ 0) × (key ≡ keyOf (heardIn t bs)) × (told ≡ heardOf (heardIn t bs))
-            unfolding heardIn
-            says = heard-says (h .origin) (timestamp bs) (marker bs) (payload bs) said heard-there key told x
-
-            same-report : segmentOf key told ≡ heardIn t bs
-            unfolding sayingRefusal heardIn
-            same-report =
-                let q = read-in-range bs fit (both-none (payloadRefusal (payload bs)) _ (says .0) .0) in
-                rw (says .1, says .2) (segment-back (heardIn t bs) (omega (arith, leb-true (code (payload bs)) 15 (q .0))) (omega (arith, q .2)))
-
-            to-the-table : receive t bs ≡ takenInto t (heardIn t bs)
-            unfolding receive receiveRefusal probes takenInto
-            to-the-table = rw (by-saying, says .0) (go (noRoom t (heardIn t bs)))
-              where
-                looked : ℕ
-                looked = search (heardIn t bs) (held t) .probes
-
-                go : (b : Bool) → cond (eqb (cond b 11 0) 0) (taken t (heardIn t bs) looked) (refusing (cond b 11 0) t looked)
-                    ≡ cond b (refusing 11 t looked) (taken t (heardIn t bs) looked)
-                go true = refl
-                go false = refl
-
-            pub takes-it : (a : Received) (keys′ heard′ : List ℕ) → Takes h keys heard key told a keys′ heard′ → Receives h keys heard bs a keys′ heard′
-            takes-it a keys′ heard′ e =
-                let q : takenInto t (segmentOf key told) ≡ receive t bs = ap (takenInto t) same-report ∙ sym to-the-table in
-                let s : a ≡ receive t bs .answer = e .answer ∙ (λ i. q i .answer) in
-                let w : tableOf (holding (a .count) h) keys′ heard′ ≡ receive t bs .table = e .table ∙ (λ i. q i .table) in
-                record { answer = s; table = w; passes = ap valid w ∙ stays-valid t bs v fit; bounded = within-8 t bs a s }
-
-pub ruleset ways = (
-  needs,
-  header-whole,
-  starts-before-end,
-  ends-within,
-  bytes-fit,
-  unread,
-  other-type,
-  other-source,
-  says-nothing,
-  takes-it,
-  bad-table,
-  bad-table-stays,
-  none-looked-at,
-  passed,
-)
+pub ruleset ways = (needs, bytes-fit, bad-table, bad-table-stays, none-looked-at, passed, answered, received, bounded, receives)

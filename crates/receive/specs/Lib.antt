@@ -1,2 +1,3 @@
 pub mod Sayings
+pub mod Steps
 pub mod Receives

@@ -33,7 +33,3 @@ hearingOf origin timestamp marked p =
     cond (eqb (sayingRefusal origin timestamp p) none)
     (hearing.Heard (keyOf (saying origin timestamp marked p)) (heardOf (saying origin timestamp marked p)))
     (hearing.Refused (sayingRefusal origin timestamp p))
-
-abbrev pub refusalOfHearing : Hearing → ℕ
-refusalOfHearing (hearing.Heard key told) = none
-refusalOfHearing (hearing.Refused n) = n

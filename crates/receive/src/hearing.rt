@@ -1,7 +1,7 @@
 // What a payload says, at its timestamp and with its marker, as it is heard from an origin. No table takes part.
 ghost use mathlib.Core.Path.{_≡_};
 ghost use Rattle.model.specs.Receive.{offset};
-ghost use Rattle.receive.specs.Sayings.{hearingOf, refusalOfHearing};
+ghost use Rattle.receive.specs.Sayings.{hearingOf};
 use packet::payload::Payload;
 use packet::payload::payload_of;
 use packet::payload::payload_refusal;
@@ -46,14 +46,4 @@ pub fn hear(origin: u32, timestamp: u32, marked: bool, payload: &[u8]) -> Hearin
         key: key_of(offset, code),
         told: heard_of(duration, volume, ended, marked),
     }
-}
-
-// The number of a hearing's refusal; 0 if there is none.
-pub fn hearing_refusal(h: Hearing) -> u8
-    ensures { λ r. ⌜ r ≡ refusalOfHearing h ⌝ }
-{
-    let Hearing::Refused(n) = h else {
-        return 0;
-    };
-    n
 }

@@ -6,20 +6,14 @@ ghost use Rattle.model.specs.Table.{tableOf, holding, valid};
 ghost use Rattle.model.specs.Receive.{receive};
 ghost use Rattle.receive.specs.Receives.{Receives};
 
-pub mod hearing;
+mod hearing;
+mod steps;
 
-use hearing::Hearing;
-use hearing::hear;
-use hearing::hearing_refusal;
 use model::Head;
 use model::Received;
-use packet::header::Header;
-use packet::header::header_of;
-use packet::header::header_refusal;
-use packet::header::marker;
-use packet::header::payload_type;
-use packet::header::ssrc;
-use packet::header::timestamp;
+use steps::header_for;
+use steps::hear_in;
+use steps::take_heard;
 use table::refused;
 
 // Receives a packet into a table that passes the tests, and leaves one that passes them: its report is taken, or it is refused
@@ -33,26 +27,9 @@ pub fn receive_valid(
     requires { ⌜ valid (tableOf head (now keys) (now heard)) ≡ true ⌝ }
     ensures { λ r. ⌜ Receives head (now (keys .entry)) (now (heard .entry)) (now (packet .entry)) r (now (keys .exit)) (now (heard .exit)) ⌝ }
 {
-    let found = header_of(packet);
-    let Header::Found { start, end } = found else {
-        return refused(header_refusal(found), head.count);
-    };
-    if payload_type(packet) != head.payload_type {
-        return refused(model::OTHER_PAYLOAD_TYPE, head.count);
-    }
-    if ssrc(packet) != head.ssrc {
-        return refused(model::OTHER_SSRC, head.count);
-    }
-    let said = hear(
-        head.origin,
-        timestamp(packet),
-        marker(packet),
-        &packet[start..end],
-    );
-    let Hearing::Heard { key, told } = said else {
-        return refused(hearing_refusal(said), head.count);
-    };
-    table::take(head, keys, heard, key, told)
+    let found = header_for(head, packet);
+    let said = hear_in(head, packet, found);
+    take_heard(head, keys, heard, said)
 }
 
 // Receives a packet: its report is taken into the table, or it is refused with 16, 1 to 11 or 17, and the table is as it
@@ -66,5 +43,7 @@ pub fn receive(head: Head, keys: &mut [u64; 128], heard: &mut [u32; 128], packet
     if !valid::is_valid(head, keys, heard) {
         return refused(model::INVALID_TABLE, head.count);
     }
-    receive_valid(head, keys, heard, packet)
+    let found = header_for(head, packet);
+    let said = hear_in(head, packet, found);
+    take_heard(head, keys, heard, said)
 }

@@ -11,7 +11,7 @@ use Rattle.model.specs.declared.Table.{Table}
 use Rattle.model.specs.Table.{emptyTable, opened}
 use Rattle.table.proofs.Halving.{search-starts, search-ends, search-up, search-down}
 use Rattle.table.proofs.Takes.{count-within, merges-within, known, full, inserts-within, new}
-use Rattle.table.proofs.Shifts.{opening-starts, opening-goes-on, key-put-in, told-put-in, stores, stored-length}
+use Rattle.table.proofs.Shifts.{opening-starts, opening-goes-on, put-in, stores, stored-length}
 
 module _ (type ssrc origin : ℕ) (t : Table) where
   pub type-high : 127 < type → t ≡ emptyTable 0 0 0 → record { table = t; refusal = 12 } ≡ opened type ssrc origin
@@ -33,8 +33,7 @@ pub ruleset receiving = (
   type-fits,
   opening-starts,
   opening-goes-on,
-  key-put-in,
-  told-put-in,
+  put-in,
   stores,
   stored-length,
   search-starts,

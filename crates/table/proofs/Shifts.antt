@@ -66,38 +66,26 @@ one-moved l n few m i j k more top w e = record {
     s : j ≡ suc k
     s = omega arith
 
--- BOTH COLUMNS
-
--- the places from j to n have moved up in both columns, and place i is still to be reached
-pub record Opening (keys heard : List ℕ) (n i : ℕ) (keys′ heard′ : List ℕ) (j : ℕ) : Type 0 where
+-- the places from j to n have moved up, and place i is still to be reached
+pub record Opening (l : List ℕ) (n i : ℕ) (m : List ℕ) (j : ℕ) : Type 0 where
   pub from : i ≤ j
   pub upto : j ≤ n
-  pub keys-moved : Moved keys n keys′ j
-  pub heard-moved : Moved heard n heard′ j
+  pub moved : Moved l n m j
 
-module _ (keys heard : List ℕ) (n i : ℕ) (keys-long : n < length keys) (heard-long : n < length heard) where
-  pub opening-starts : i ≤ n → Opening keys heard n i keys heard n
-  opening-starts h = record { from = h; upto = omega arith; keys-moved = none-moved keys n keys-long; heard-moved = none-moved heard n heard-long }
+module _ (l : List ℕ) (n i : ℕ) (few : n < length l) where
+  pub opening-starts : i ≤ n → Opening l n i l n
+  opening-starts h = record { from = h; upto = omega arith; moved = none-moved l n few }
 
-  pub opening-goes-on : (keys′ heard′ : List ℕ) (j : ℕ) → Opening keys heard n i keys′ heard′ j → i < j
-      → Opening keys heard n i (set keys′ j (getD keys′ (j - 1) 0)) (set heard′ j (getD heard′ (j - 1) 0)) (j - 1)
-  opening-goes-on keys′ heard′ j w more = record {
+  pub opening-goes-on : (m : List ℕ) (j : ℕ) → Opening l n i m j → i < j → Opening l n i (set m j (getD m (j - 1) 0)) (j - 1)
+  opening-goes-on m j w more = record {
     from = omega arith;
     upto = omega (arith, w .upto);
-    keys-moved = one-moved keys n keys-long keys′ i j (j - 1) more (w .upto) (w .keys-moved) refl;
-    heard-moved = one-moved heard n heard-long heard′ i j (j - 1) more (w .upto) (w .heard-moved) refl;
+    moved = one-moved l n few m i j (j - 1) more (w .upto) (w .moved) refl;
   }
 
 -- place i is reached: what is stored there is put in
-module _ (keys heard : List ℕ) (n i : ℕ) (keys′ heard′ : List ℕ) (j : ℕ) (w : Opening keys heard n i keys′ heard′ j) (reached : j ≤ i) where
-  there : i ≡ j
-  there = omega (arith, w .from)
-
-  pub key-put-in : (key : ℕ) → set keys′ i key ≡ insertedAt i key n keys
-  key-put-in key = rw there (w .keys-moved .stored key)
-
-  pub told-put-in : (told : ℕ) → set heard′ i told ≡ insertedAt i told n heard
-  told-put-in told = rw there (w .heard-moved .stored told)
+pub put-in : (l : List ℕ) (n i : ℕ) (m : List ℕ) (j : ℕ) → Opening l n i m j → j ≤ i → (x : ℕ) → set m i x ≡ insertedAt i x n l
+put-in l n i m j w reached x = let there : i ≡ j = omega (arith, w .from) in rw there (w .moved .stored x)
 
 pub stored-length : (l m : List ℕ) (i x : ℕ) → length m ≡ length l → length (set m i x) ≡ length l
 stored-length l m i x e = length-set m i x ∙ e

@@ -16,10 +16,10 @@ pub struct Sought {
 
 // The middle of the places from `low` up to the one before `high`, rounded down.
 fn middle(low: usize, high: usize) -> usize
-    requires { ⌜ low ≤ high ⌝ }
+    requires { ⌜ low + high ≤ 0xffff_ffff_ffff_ffff ⌝ }
     ensures { λ r. ⌜ r ≡ (low + high) / 2 ⌝ }
 {
-    low + (high - low) / 2
+    (low + high) / 2
 }
 
 // Where the wanted key stands or belongs among the first n, found by halving, and how many keys were looked at.

@@ -31,22 +31,32 @@ pub fn refused(refusal: u8, count: usize) -> Received
     answer(refusal, false, count, 0)
 }
 
-// Puts a segment's two numbers in at place i of the n held: later ones move up by one place, the places above stay.
-fn insert(keys: &mut [u64], heard: &mut [u32], n: usize, i: usize, key: u64, told: u32)
+// Puts a number in at place i of the n held of a column: later ones move up by one place, the places above stay.
+fn insert_64(column: &mut [u64], n: usize, i: usize, x: u64)
     requires { ⌜ i ≤ n ⌝ }
-    requires { ⌜ n < length (now keys) ⌝ }
-    requires { ⌜ n < length (now heard) ⌝ }
-    ensures { λ _. ⌜ now (keys .exit) ≡ insertedAt i key n (now (keys .entry)) ⌝ }
-    ensures { λ _. ⌜ now (heard .exit) ≡ insertedAt i told n (now (heard .entry)) ⌝ }
+    requires { ⌜ n < length (now column) ⌝ }
+    ensures { λ _. ⌜ now (column .exit) ≡ insertedAt i x n (now (column .entry)) ⌝ }
 {
     let mut j = n;
     while i < j {
-        keys[j] = keys[j - 1];
-        heard[j] = heard[j - 1];
+        column[j] = column[j - 1];
         j -= 1;
     }
-    keys[i] = key;
-    heard[i] = told;
+    column[i] = x;
+}
+
+// The same in a column of narrower numbers.
+fn insert_32(column: &mut [u32], n: usize, i: usize, x: u32)
+    requires { ⌜ i ≤ n ⌝ }
+    requires { ⌜ n < length (now column) ⌝ }
+    ensures { λ _. ⌜ now (column .exit) ≡ insertedAt i x n (now (column .entry)) ⌝ }
+{
+    let mut j = n;
+    while i < j {
+        column[j] = column[j - 1];
+        j -= 1;
+    }
+    column[i] = x;
 }
 
 // The segment at place i keeps a report of its pair too.
@@ -78,6 +88,7 @@ pub fn take(
     if 128 <= n {
         return answer(model::TABLE_FULL, false, n, sought.probes);
     }
-    insert(keys, heard, n, sought.place, key, told);
+    insert_64(keys, n, sought.place, key);
+    insert_32(heard, n, sought.place, told);
     answer(0, true, n + 1, sought.probes)
 }

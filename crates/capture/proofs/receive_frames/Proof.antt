@@ -5,16 +5,19 @@ use Rattle.capture.proofs.receive_frames.Statement.{statement}
 use Rattle.capture.proofs.receive_frames.Tie as tie
 
 abbrev Inv-loop : tie.InvT-loop
-Inv-loop keys₀ heard₀ frames after₀ answer₀ keys heard after answer = Progress after₀ keys₀ heard₀ frames after answer keys heard
+Inv-loop keys₀ heard₀ frames after₀ tally₀ keys heard after tally = Progress after₀ keys₀ heard₀ frames after tally keys heard
 
 abbrev μ-loop : tie.MeasureT-loop
-μ-loop keys₀ heard₀ frames after₀ answer₀ keys heard after answer = length frames - answer .used
+μ-loop keys₀ heard₀ frames after₀ tally₀ keys heard after tally = length frames - tally .used
 
-uncounted-requires : tie.Need-uncounted-requires Inv-loop μ-loop
-uncounted-requires c κs = search capturing
+none-yet-requires : tie.Need-none-yet-requires Inv-loop μ-loop
+none-yet-requires c κs = search capturing
 
 loop-holds : tie.Need-loop-holds Inv-loop μ-loop
 loop-holds c = search capturing
+
+sub-if1 : tie.Need-sub-if1 Inv-loop μ-loop
+sub-if1 c = search capturing
 
 frame-at-requires : tie.Need-frame-at-requires Inv-loop μ-loop
 frame-at-requires c κs = search capturing
@@ -24,6 +27,9 @@ enum-known-f c = search capturing
 
 enum-told : tie.Need-enum-told Inv-loop μ-loop
 enum-told c = search capturing
+
+captured-requires : tie.Need-captured-requires Inv-loop μ-loop
+captured-requires c κs = search capturing
 
 returns : tie.Need-returns Inv-loop μ-loop
 returns c = search capturing
@@ -49,6 +55,9 @@ loop-less c = search capturing
 loop-again : tie.Need-loop-again Inv-loop μ-loop
 loop-again c = search capturing
 
+captured-requires-2 : tie.Need-captured-requires-2 Inv-loop μ-loop
+captured-requires-2 c κs = search capturing
+
 returns-2 : tie.Need-returns-2 Inv-loop μ-loop
 returns-2 c = search capturing
 
@@ -58,11 +67,13 @@ receive-frames-spec =
     (tie.spec
     Inv-loop
     μ-loop
-    uncounted-requires
+    none-yet-requires
     loop-holds
+    sub-if1
     frame-at-requires
     enum-known-f
     enum-told
+    captured-requires
     returns
     sub-receive-valid
     part-receive-valid-start
@@ -71,4 +82,5 @@ receive-frames-spec =
     one-more-requires
     loop-less
     loop-again
+    captured-requires-2
     returns-2)

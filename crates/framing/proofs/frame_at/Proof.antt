@@ -2,14 +2,11 @@ use Rattle.framing.proofs.Laws.{framing}
 use Rattle.framing.proofs.frame_at.Statement.{statement}
 use Rattle.framing.proofs.frame_at.Tie as tie
 
-returns : tie.Need-returns
-returns c = search framing
-
 sub-left : tie.Need-sub-left
 sub-left c = search framing
 
-returns-2 : tie.Need-returns-2
-returns-2 c = search framing
+returns : tie.Need-returns
+returns c = search framing
 
 shared-slice-read-wide : tie.Need-shared-slice-read-wide
 shared-slice-read-wide c = search framing
@@ -32,28 +29,27 @@ wide-requires-2 c κs = search framing
 add-length : tie.Need-add-length
 add-length c = search framing
 
+returns-2 : tie.Need-returns-2
+returns-2 c = search framing
+
+add-t11 : tie.Need-add-t11
+add-t11 c = search framing
+
+add-t9 : tie.Need-add-t9
+add-t9 c = search framing
+
+add-t5 : tie.Need-add-t5
+add-t5 c = search framing
+
 returns-3 : tie.Need-returns-3
 returns-3 c = search framing
-
-add-t12 : tie.Need-add-t12
-add-t12 c = search framing
-
-add-t10 : tie.Need-add-t10
-add-t10 c = search framing
-
-add-t7 : tie.Need-add-t7
-add-t7 c = search framing
-
-returns-4 : tie.Need-returns-4
-returns-4 c = search framing
 
 pub frame-at-spec : {M : Type 1} → statement M
 frame-at-spec =
     tie.close
     (tie.spec
-    returns
     sub-left
-    returns-2
+    returns
     shared-slice-read-wide
     wide-requires
     mul-length
@@ -61,8 +57,8 @@ frame-at-spec =
     shared-slice-read-wide-2
     wide-requires-2
     add-length
-    returns-3
-    add-t12
-    add-t10
-    add-t7
-    returns-4)
+    returns-2
+    add-t11
+    add-t9
+    add-t5
+    returns-3)

@@ -1,5 +1,4 @@
 use Prim.Native.Nat.{_-_}
-use borrow.Author.Needs.{needs}
 use Rattle.listing.proofs.Moves.{Moving, moves}
 use Rattle.listing.proofs.input.keep.Statement.{statement}
 use Rattle.listing.proofs.input.keep.Tie as tie

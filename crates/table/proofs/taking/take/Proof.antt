@@ -20,8 +20,11 @@ answer-requires-2 c κs = search taking
 returns-2 : tie.Need-returns-2
 returns-2 c = search taking
 
-insert-requires : tie.Need-insert-requires
-insert-requires c κs = (search taking, (search taking, search taking))
+insert-64-requires : tie.Need-insert-64-requires
+insert-64-requires c κs = (search taking, search taking)
+
+insert-32-requires : tie.Need-insert-32-requires
+insert-32-requires c κs = (search taking, search taking)
 
 add-answer : tie.Need-add-answer
 add-answer c = search taking
@@ -42,7 +45,8 @@ take-spec =
     returns
     answer-requires-2
     returns-2
-    insert-requires
+    insert-64-requires
+    insert-32-requires
     add-answer
     answer-requires-3
     returns-3)
