@@ -18,7 +18,7 @@ use Rattle.model.specs.Receive.{receive, refuses}
 use Rattle.model.specs.Frames.{startsWhole, frameSize}
 use Rattle.model.specs.Capture.{Capturing, refusesPacked, receivingAll, receivingNone, receiveCapture, together}
 use Rattle.model.proofs.Frames.{at-least-2, cut-if}
-use Rattle.model.proofs.Captures.{all-if-valid, none-if-invalid, nothingMore, all-none, ofFrame, all-first, packed-once}
+use Rattle.model.proofs.Captures.{all-if-valid, none-if-invalid, nothingMore, all-none, ofFrame, all-first, at-most-1, packed-once}
 use Rattle.receive.specs.Receives.{Receives}
 use Rattle.framing.specs.declared.Frame.{Frame}
 use Rattle.framing.specs.declared.Frame.the-variants.{Whole, Rest}
@@ -93,10 +93,6 @@ one-between x c got size among = λ i. record {
     taken : (b : Bool) → c .packets + 1 - (c .refused + bit (not b)) + x .answer .taken ≡ c .packets - c .refused + (bit b + x .answer .taken)
     taken true = omega arith
     taken false = omega arith
-
-at-most-1 : (b : Bool) → bit b ≤ 1
-at-most-1 true = omega arith
-at-most-1 false = omega arith
 
 module _ (h : Head) (keys heard bs : List ℕ) where
   pub starts : valid (tableOf h keys heard) ≡ true → (c : Tally) → c ≡ noneYet (h .count) → Progress h keys heard bs h c keys heard

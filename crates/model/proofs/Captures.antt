@@ -104,13 +104,13 @@ counted-once (a ∷ l) = go (eqb (a .refusal) 0) (counted-once l)
     go true ih = omega arith
     go false ih = omega arith
 
+pub at-most-1 : (b : Bool) → bit b ≤ 1
+at-most-1 true = omega arith
+at-most-1 false = omega arith
+
 pub packed-once : (n : ℕ) → bit (eqb n 17) ≤ bit (not (eqb n 0))
 packed-once zero = omega arith
 packed-once (suc n) = rw (ne-eqb (suc n) 0 (omega arith)) (at-most-1 (eqb (suc n) 17))
-  where
-    at-most-1 : (b : Bool) → bit b ≤ 1
-    at-most-1 true = omega arith
-    at-most-1 false = omega arith
 
 packed-refused : (l : List Received) → howMany refusesPacked l ≤ howMany refuses l
 unfolding howMany
