@@ -29,6 +29,9 @@ first-from : (i : ℕ) (b : List ℕ) → getD (drop i b) 0 0 ≡ getD b i 0
 first-from i b = let z : i + 0 ≡ i = omega arith in getD-drop i b 0 0 ∙ rw z
 
 module _ (b₀ : List ℕ) (at n : ℕ) where
+  pub all-there : n ≤ length b₀ → at ≡ 0 → Keeps at n b₀ n b₀
+  all-there h e = rw e (record { same = refl; within = h; front = refl })
+
   pub begins : at ≤ n → n ≤ length b₀ → Moving b₀ at n at b₀
   begins h k = let z : at - at ≡ 0 = omega arith in record { begun = omega arith; within = h; room = k; same = refl; moved = rw z; ahead = refl }
 
@@ -64,4 +67,4 @@ pub refilled : (first n : ℕ) (b ys : List ℕ) → first < length b → first 
     → length (putMid first (length b - first) b ys) ≡ length b → Refills first b n (putMid first (length b - first) b ys)
 refilled first n b ys h within same = record { same = same; within = within; stays = take-put first (length b - first) b ys (omega arith) }
 
-pub ruleset moves = (needs, begins, one-moved, all-moved, refilled)
+pub ruleset moves = (needs, all-there, begins, one-moved, all-moved, refilled)

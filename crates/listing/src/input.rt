@@ -42,12 +42,16 @@ fn refill(file: i32, b: &mut [u8], from: usize) -> usize
     read_some(file, &mut b[from..n])
 }
 
-// Moves the bytes from place `at` up to n to the front, and answers how many they are.
+// Moves the bytes from place `at` up to n to the front, and answers how many they are. A long frame may come in many small pieces: then
+// none was used, and none is moved.
 fn keep(b: &mut [u8], at: usize, n: usize) -> usize
     requires { ⌜ at ≤ n ⌝ }
     requires { ⌜ n ≤ length (now b) ⌝ }
     ensures { λ r. ⌜ Keeps at n (now (b .entry)) r (now (b .exit)) ⌝ }
 {
+    if at == 0 {
+        return n;
+    }
     let mut i = at;
     while i < n {
         b[i - at] = b[i];

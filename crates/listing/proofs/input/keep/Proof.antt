@@ -9,6 +9,9 @@ Inv-loop b₀ at n i₀ b i = Moving b₀ at n i b
 abbrev μ-loop : tie.MeasureT-loop
 μ-loop b₀ at n i₀ b i = n - i
 
+returns : tie.Need-returns Inv-loop μ-loop
+returns c = search moves
+
 loop-holds : tie.Need-loop-holds Inv-loop μ-loop
 loop-holds c = search moves
 
@@ -36,8 +39,8 @@ sub-result c = search moves
 same-length : tie.Need-same-length Inv-loop μ-loop
 same-length c = search moves
 
-returns : tie.Need-returns Inv-loop μ-loop
-returns c = search moves
+returns-2 : tie.Need-returns-2 Inv-loop μ-loop
+returns-2 c = search moves
 
 pub keep-spec : {M : Type 1} → statement M
 keep-spec =
@@ -45,6 +48,7 @@ keep-spec =
     (tie.spec
     Inv-loop
     μ-loop
+    returns
     loop-holds
     slice-read-b
     sub-b
@@ -54,4 +58,4 @@ keep-spec =
     loop-again
     sub-result
     same-length
-    returns)
+    returns-2)
