@@ -1,10 +1,10 @@
 /* Receiving: this build against an earlier one, whose functions `bench/before` names before_.., in turns, the best of many rounds. An
  * earlier build may answer fewer values: the first ones, in the same places. */
+#include "clock.h"
 #include "../include/twimbor.h"
 #include <stdio.h>
 #include <stdlib.h>
 #include <string.h>
-#include <time.h>
 
 typedef twimbor_received call(twimbor_head head, uint64_t *keys, uint32_t *heard, const uint8_t *packet, size_t bytes);
 typedef uint64_t loop(twimbor_head head, uint64_t *keys, uint32_t *heard, const uint8_t *packets, size_t bytes, uint32_t passes);
@@ -15,13 +15,6 @@ enum { PACKETS = 256, ROUNDS = 2000, TURNS = 10, WAYS = 3 };
 static uint8_t packets[PACKETS * 16];
 static call *const calls[] = {before_twimbor_receive_columns, twimbor_receive_columns};
 static loop *const loops[][2] = {{before_bench_receive, bench_receive}, {before_bench_receive_valid, bench_receive_valid}};
-
-static double now(void)
-{
-    struct timespec t;
-    clock_gettime(CLOCK_MONOTONIC, &t);
-    return t.tv_sec * 1e9 + t.tv_nsec;
-}
 
 static void pass(int way, int build, twimbor_table *t)
 {

@@ -1,9 +1,9 @@
 /* A whole capture in one call: ours against plain C, both in place, the table tested once, in turns, the best of many rounds. */
+#include "clock.h"
 #include "plain/plain.h"
 #include <stdio.h>
 #include <stdlib.h>
 #include <string.h>
-#include <time.h>
 
 /* So many frames that a search cannot be foretold from the round before, where they come at random. */
 enum { PACKET = 16, FRAME = 2 + PACKET, FRAMES = 32768, ROUNDS = 300 };
@@ -14,18 +14,6 @@ enum { OURS, PLAIN, WAYS };
 static struct {
     _Alignas(4096) twimbor_table table;
 } tables[WAYS];
-
-static double now(void)
-{
-    struct timespec t;
-    clock_gettime(CLOCK_MONOTONIC, &t);
-    return t.tv_sec * 1e9 + t.tv_nsec;
-}
-
-static void least(double *best, double t)
-{
-    if (t < *best) *best = t;
-}
 
 /* 0 to n - 1, the same in every run. */
 static uint32_t below(uint32_t n)

@@ -1,21 +1,14 @@
 /* A plan's two calls: ours against plain C behind the same boundary, in turns, the best of many rounds of each. */
+#include "clock.h"
 #include "plain/plain.h"
 #include <stdio.h>
 #include <stdlib.h>
 #include <string.h>
-#include <time.h>
 
 /* Many plans, so that a processor does not learn the branches of each. */
 enum { PLANS = 4096, TURNS = 6, ROUNDS = 600, CHECKS = 2000000 };
 static twimbor_plan plans[PLANS];
 static uint32_t numbers[PLANS];
-
-static double now(void)
-{
-    struct timespec t;
-    clock_gettime(CLOCK_MONOTONIC, &t);
-    return t.tv_sec * 1e9 + t.tv_nsec;
-}
 
 /* 0 to n - 1, the same in every run. */
 static uint32_t below(uint32_t n)
@@ -94,11 +87,6 @@ static double round_of_write(uint8_t (*write)(twimbor_plan, uint32_t, uint8_t *,
             *sum += output[15];
         }
     return (now() - start) / ((double)TURNS * PLANS);
-}
-
-static void least(double *best, double t)
-{
-    if (t < *best) *best = t;
 }
 
 int main(void)

@@ -1,17 +1,10 @@
 /* Reading a 16-byte packet: ours against plain C behind the same boundary, in turns, the best of many rounds of each. */
+#include "clock.h"
 #include "plain/plain.h"
 #include <stdio.h>
-#include <time.h>
 
 enum { PACKETS = 256, TURNS = 200, ROUNDS = 600 };
 static uint8_t packets[PACKETS][16];
-
-static double now(void)
-{
-    struct timespec t;
-    clock_gettime(CLOCK_MONOTONIC, &t);
-    return t.tv_sec * 1e9 + t.tv_nsec;
-}
 
 static double round_of(twimbor_read_result (*read)(const uint8_t *, size_t), uint64_t *sum)
 {

@@ -1,9 +1,9 @@
 /* Receiving and listing: ours against plain C, both in place and with the same tests, in turns, the best of many rounds. */
+#include "clock.h"
 #include "plain/plain.h"
 #include <stdio.h>
 #include <stdlib.h>
 #include <string.h>
-#include <time.h>
 
 /* The packets of a buffer, 16 bytes each, so many times over, in a Rattle loop: by the library's call, and by its step for a table
  * that is known to pass the tests. Each answers how many segments are held at the end. */
@@ -12,18 +12,6 @@ loop bench_receive, bench_receive_valid;
 
 enum { PACKETS = 256, ROUNDS = 400 };
 static uint8_t packets[PACKETS * 16];
-
-static double now(void)
-{
-    struct timespec t;
-    clock_gettime(CLOCK_MONOTONIC, &t);
-    return t.tv_sec * 1e9 + t.tv_nsec;
-}
-
-static void least(double *best, double t)
-{
-    if (t < *best) *best = t;
-}
 
 static void same_answer(const twimbor_table *t, const uint8_t *packet, size_t bytes)
 {

@@ -1,19 +1,12 @@
 /* The worst case of each call: how many bytes of a packet and entries of a table its answer goes by, found by changing them one at a
  * time, and how long it takes on the input that makes it do most. The best of many rounds. */
+#include "clock.h"
 #include "../include/twimbor.h"
 #include <stdio.h>
 #include <stdlib.h>
 #include <string.h>
-#include <time.h>
 
 enum { ROUNDS = 2000, TURNS = 20 };
-
-static double now(void)
-{
-    struct timespec t;
-    clock_gettime(CLOCK_MONOTONIC, &t);
-    return t.tv_sec * 1e9 + t.tv_nsec;
-}
 
 /* The nanoseconds of a call. */
 #define TIME(call) ({ \

@@ -56,7 +56,14 @@ pub record Progress (h : Head) (keys heard bs : List ℕ) (h′ : Head) (c : Tal
 
 none-before : (x : Capturing) (count : ℕ) → together (captured (noneYet count)) x ≡ x
 none-before x count = λ i. record {
-  answer = record { refusal = x .answer .refusal; count = x .answer .count; used = zero (x .answer .used) i; taken = zero (x .answer .taken) i; refused = zero (x .answer .refused) i; packed = zero (x .answer .packed) i };
+  answer = record {
+    refusal = x .answer .refusal;
+    count = x .answer .count;
+    used = zero (x .answer .used) i;
+    taken = zero (x .answer .taken) i;
+    refused = zero (x .answer .refused) i;
+    packed = zero (x .answer .packed) i;
+  };
   table = x .table;
 }
   where
@@ -65,7 +72,14 @@ none-before x count = λ i. record {
 
 none-after : (u : Table) (c : Tally) → u .head .count ≡ c .count → together (captured c) (nothingMore u) ≡ record { answer = captured c; table = u }
 none-after u c n = λ i. record {
-  answer = record { refusal = 0; count = n i; used = zero (c .used) i; taken = zero (c .packets - c .refused) i; refused = zero (c .refused) i; packed = zero (c .packed) i };
+  answer = record {
+    refusal = 0;
+    count = n i;
+    used = zero (c .used) i;
+    taken = zero (c .packets - c .refused) i;
+    refused = zero (c .refused) i;
+    packed = zero (c .packed) i;
+  };
   table = u;
 }
   where
