@@ -8,6 +8,11 @@
  * points to may not be written by anything else during the call, and what the call writes may not overlap anything else that is
  * lent to it. No pointer may be null, not even with 0 bytes or records.
  *
+ * The calls keep nothing and share nothing, so different tables may be used in different threads at the same time.
+ *
+ * A `bool` must be 0 or 1. A byte of a file may be neither, and as a bool that is undefined behaviour: read a stored bool back as
+ * `byte != 0`. Reports, segments and events have bools; a table has none.
+ *
  * A `length`, `duration`, `period` or `segment_size` is always in timestamp units. */
 #ifndef TWIMBOR_H
 #define TWIMBOR_H
@@ -15,6 +20,25 @@
 #include <stdbool.h>
 #include <stddef.h>
 #include <stdint.h>
+
+#define TWIMBOR_VERSION_MAJOR 0
+#define TWIMBOR_VERSION_MINOR 8
+#define TWIMBOR_VERSION_PATCH 0
+#define TWIMBOR_VERSION \
+    TWIMBOR_DIGITS(TWIMBOR_VERSION_MAJOR) "." TWIMBOR_DIGITS(TWIMBOR_VERSION_MINOR) "." TWIMBOR_DIGITS(TWIMBOR_VERSION_PATCH)
+#define TWIMBOR_DIGITS(number) TWIMBOR_QUOTED(number)
+#define TWIMBOR_QUOTED(digits) #digits
+
+#define TWIMBOR_PLACES 128              /* the segments that a table holds at most, and so the events that it can list */
+#define TWIMBOR_LONGEST_EVENT 1048560   /* timestamp units that a plan can have: 16 segments of 65535 */
+#define TWIMBOR_PACKET_BYTES 16         /* what is written of a report */
+
+/* On every function whose answer says whether it was refused, or is a truth: gcc and clang warn if it is thrown away. */
+#ifdef __GNUC__
+#define TWIMBOR_MUST_CHECK __attribute__((warn_unused_result))
+#else
+#define TWIMBOR_MUST_CHECK
+#endif
 
 #ifdef __cplusplus
 extern "C" {
@@ -39,6 +63,38 @@ enum {
     TWIMBOR_INVALID_TABLE = 16,     /* table fails a test */
     TWIMBOR_PACKED = 17             /* payload of 8, 12 or more bytes in whole fours: several reports */
 };
+
+/* A refusal in words, for people to read. Every number has some, 0 and those of no refusal too. */
+static inline const char *twimbor_refusal_text(uint64_t number)
+{
+    switch (number) {
+    case 0: return "nothing is refused";
+    case TWIMBOR_TOO_SHORT: return "the packet has fewer than 12 bytes";
+    case TWIMBOR_WRONG_VERSION: return "the packet's RTP version is not 2";
+    case TWIMBOR_HEADER_PAST_END: return "the packet's CSRC list or extension runs past its end";
+    case TWIMBOR_BAD_PADDING: return "the packet's pad count is 0 or above the bytes after its header";
+    case TWIMBOR_OTHER_PAYLOAD_TYPE: return "the packet's payload type is not the table's";
+    case TWIMBOR_OTHER_SSRC: return "the packet's SSRC is not the table's";
+    case TWIMBOR_NOT_ONE_REPORT: return "the packet's payload is not 4 bytes, one report";
+    case TWIMBOR_CODE_TOO_HIGH: return "the report's event code is above 15";
+    case TWIMBOR_NO_DURATION: return "the report's duration is 0";
+    case TWIMBOR_OFFSET_TOO_LARGE: return "the report's timestamp is 2^31 or more after the table's origin";
+    case TWIMBOR_TABLE_FULL: return "the table holds 128 segments, and the report's is none of them";
+    case TWIMBOR_OUT_OF_RANGE: return "a number given is outside its range";
+    case TWIMBOR_NO_SUCH_NUMBER: return "the report or event number is 0 or above the count";
+    case TWIMBOR_OUTPUT_TOO_SMALL: return "the output has fewer than 16 bytes";
+    case TWIMBOR_LIST_TOO_SMALL: return "the lent list has fewer records than there are events";
+    case TWIMBOR_INVALID_TABLE: return "the table has more than 128 segments, segments out of order, or a number outside its range";
+    case TWIMBOR_PACKED: return "the packet's payload is several reports packed together";
+    default: return "a refusal that this version does not know";
+    }
+}
+
+/* The key that a code stands for, '?' if it is none. */
+static inline char twimbor_key_character(uint32_t code)
+{
+    return code < 16 ? "0123456789*#ABCD"[code] : '?';
+}
 
 /* One report on the wire. */
 typedef struct {
@@ -82,35 +138,35 @@ typedef struct {
  * the end; 4 if P is set and the pad count is 0 or above the bytes after header, CSRC list and extension; 17 if the payload has
  * 8, 12 or more bytes in whole fours, which are several reports; 7 if it has any other length but 4; 8 if the code is above 15;
  * 9 if the duration is 0. The report is then all zeros. */
-twimbor_read_result twimbor_read(const uint8_t *packet, size_t bytes);
+TWIMBOR_MUST_CHECK twimbor_read_result twimbor_read(const uint8_t *packet, size_t bytes);
 
 /* Writes the 16 bytes of a report's packet at the start of the output; the bytes after them stay. No CSRC list, extension or
  * padding is written. twimbor_read gives the report back.
  *
  * Answers 0, or refuses, in this order: 12 if the payload type is above 127, the code above 15, the volume above 63, or the
  * duration 0 or above 65535; 14 if the output has fewer than 16 bytes. All of the output then stays. */
-uint8_t twimbor_write(twimbor_report report, uint8_t *output, size_t bytes);
+TWIMBOR_MUST_CHECK uint8_t twimbor_write(twimbor_report report, uint8_t *output, size_t bytes);
 
 /* How many reports a plan has. An event is cut into segments of the segment size, the last holding the rest; a segment of L units
  * is reported at each multiple of the period below L, and at L three times.
  *
  * Refused: 12 if the payload type is above 127, the code above 15, the volume above 63, the segment size 0 or above 65535, the
  * length 0 or above 16 segment sizes, or the period 0 or above 65535. The number of reports is then 0. */
-twimbor_count_result twimbor_report_count(twimbor_plan plan);
+TWIMBOR_MUST_CHECK twimbor_count_result twimbor_report_count(twimbor_plan plan);
 
 /* Writes the 16 bytes of report k of a plan, counted from 1, at the start of the output; the bytes after them stay. The first
  * report carries the marker, and on the last segment the second and third report of its full length carry E.
  *
  * Answers 0, or refuses, in this order: 12 if a number of the plan is out of its range, as for twimbor_report_count; 13 if k is
  * 0 or above the number of reports; 14 if the output has fewer than 16 bytes. All of the output then stays. */
-uint8_t twimbor_write_report(twimbor_plan plan, uint32_t k, uint8_t *output, size_t bytes);
+TWIMBOR_MUST_CHECK uint8_t twimbor_write_report(twimbor_plan plan, uint32_t k, uint8_t *output, size_t bytes);
 
 /* What a table was opened with, and how many segments it holds. */
 typedef struct {
     uint8_t payload_type;           /* 0 to 127 */
     uint32_t ssrc;
     uint32_t origin;                /* the timestamp that offsets are counted from */
-    size_t count;                   /* at most 128 */
+    size_t count;                   /* at most TWIMBOR_PLACES */
 } twimbor_head;
 
 /* The receiving table. The first `count` places of its two columns hold segments, by offset, then code; what stands in the
@@ -119,11 +175,14 @@ typedef struct {
  *      63                          8 7        0         31           18 17 16 15             0
  *     +-----------------------------+----------+       +---------------+--+--+----------------+
  *     |           offset            |   code   |       |    volume     |M |E |    duration    |
- *     +-----------------------------+----------+       +---------------+--+--+----------------+ */
+ *     +-----------------------------+----------+       +---------------+--+--+----------------+
+ *
+ * A table may be stored field by field, or whole for the same header on the same kind of machine; twimbor_is_valid tests one that
+ * was read back. What stands between its fields may be anything, so tables are not to be compared or hashed as bytes (memcmp). */
 typedef struct {
     twimbor_head head;
-    uint64_t keys[128];
-    uint32_t heard[128];
+    uint64_t keys[TWIMBOR_PLACES];
+    uint32_t heard[TWIMBOR_PLACES];
 } twimbor_table;
 
 /* A segment: what was heard of one offset and code. */
@@ -177,22 +236,24 @@ typedef struct {
     uint8_t refusal;
 } twimbor_opened;
 
-/* The archive's calls take the head by value and the columns as pointers to 128 numbers each, wherever these are kept. The
- * functions after them do the same with a twimbor_table, and say what each call does. */
-twimbor_opened twimbor_open_table(uint32_t payload_type, uint32_t ssrc, uint32_t origin);
-bool twimbor_is_valid_columns(twimbor_head head, const uint64_t *keys, const uint32_t *heard);
-twimbor_received twimbor_receive_columns(twimbor_head head, uint64_t *keys, uint32_t *heard, const uint8_t *packet, size_t bytes);
-twimbor_captured twimbor_receive_capture_columns(twimbor_head head, uint64_t *keys, uint32_t *heard, const uint8_t *frames,
-                                                 size_t bytes);
-twimbor_event_result twimbor_event_at_columns(twimbor_head head, const uint64_t *keys, const uint32_t *heard, uint32_t k);
-twimbor_listed twimbor_list_columns(twimbor_head head, const uint64_t *keys, const uint32_t *heard, twimbor_event *list,
-                                    size_t records);
+/* The archive's calls take the head by value and the columns as pointers to TWIMBOR_PLACES numbers each, wherever these are
+ * kept. The functions after them do the same with a twimbor_table, and say what each call does. */
+TWIMBOR_MUST_CHECK twimbor_opened twimbor_open_table(uint32_t payload_type, uint32_t ssrc, uint32_t origin);
+TWIMBOR_MUST_CHECK bool twimbor_is_valid_columns(twimbor_head head, const uint64_t *keys, const uint32_t *heard);
+TWIMBOR_MUST_CHECK twimbor_received twimbor_receive_columns(twimbor_head head, uint64_t *keys, uint32_t *heard,
+                                                            const uint8_t *packet, size_t bytes);
+TWIMBOR_MUST_CHECK twimbor_captured twimbor_receive_capture_columns(twimbor_head head, uint64_t *keys, uint32_t *heard,
+                                                                    const uint8_t *frames, size_t bytes);
+TWIMBOR_MUST_CHECK twimbor_event_result twimbor_event_at_columns(twimbor_head head, const uint64_t *keys, const uint32_t *heard,
+                                                                 uint32_t k);
+TWIMBOR_MUST_CHECK twimbor_listed twimbor_list_columns(twimbor_head head, const uint64_t *keys, const uint32_t *heard,
+                                                       twimbor_event *list, size_t records);
 
 /* Opens an empty table for the packets of one payload type and SSRC, with zeros in all places. Offsets are counted from the
  * timestamp `origin`.
  *
  * Answers 0, or refuses: 12 if the payload type is above 127, and the table is then all zeros. */
-static inline uint8_t twimbor_open(twimbor_table *table, uint32_t payload_type, uint32_t ssrc, uint32_t origin)
+TWIMBOR_MUST_CHECK static inline uint8_t twimbor_open(twimbor_table *table, uint32_t payload_type, uint32_t ssrc, uint32_t origin)
 {
     twimbor_opened opened = twimbor_open_table(payload_type, ssrc, origin);
     *table = opened.table;
@@ -201,8 +262,8 @@ static inline uint8_t twimbor_open(twimbor_table *table, uint32_t payload_type, 
 
 /* Whether a table passes the tests of refusal 16: at most 128 segments held; these strictly rising by offset, then code; offsets
  * below 2^31; codes 0 to 15; durations 1 to 65535; volumes 0 to 63; a payload type up to 127. A table that was opened always
- * does, whatever it received; one that was stored and read back may be tested with this. */
-static inline bool twimbor_is_valid(const twimbor_table *table)
+ * does, whatever it received. */
+TWIMBOR_MUST_CHECK static inline bool twimbor_is_valid(const twimbor_table *table)
 {
     return twimbor_is_valid_columns(table->head, table->keys, table->heard);
 }
@@ -219,7 +280,7 @@ static inline bool twimbor_is_valid(const twimbor_table *table)
  * Refused, in this order: 16 if the table fails its tests; 1 to 4 as by twimbor_read; 5 if it is another payload type than the
  * table's; 6 if it is another SSRC; 17, 7, 8 and 9 as by twimbor_read; 10 if the offset is 2^31 or more; 11 if 128 segments
  * are held and this pair is none of them. The table then is as it was, in every place. */
-static inline twimbor_received twimbor_receive(twimbor_table *table, const uint8_t *packet, size_t bytes)
+TWIMBOR_MUST_CHECK static inline twimbor_received twimbor_receive(twimbor_table *table, const uint8_t *packet, size_t bytes)
 {
     twimbor_received received = twimbor_receive_columns(table->head, table->keys, table->heard, packet, bytes);
     table->head.count = received.count;
@@ -234,7 +295,7 @@ static inline twimbor_received twimbor_receive(twimbor_table *table, const uint8
  *
  * Refused: 16 if the table fails its tests, and then the table is as it was, in every place, and nothing is used or counted. The
  * table is tested once, not for each packet. */
-static inline twimbor_captured twimbor_receive_capture(twimbor_table *table, const uint8_t *frames, size_t bytes)
+TWIMBOR_MUST_CHECK static inline twimbor_captured twimbor_receive_capture(twimbor_table *table, const uint8_t *frames, size_t bytes)
 {
     twimbor_captured captured = twimbor_receive_capture_columns(table->head, table->keys, table->heard, frames, bytes);
     table->head.count = captured.count;
@@ -246,17 +307,17 @@ static inline twimbor_captured twimbor_receive_capture(twimbor_table *table, con
  *
  * Refused, in this order: 16 if the table fails its tests; 13 if k is 0 or above the number of events. The event is then all
  * zeros. */
-static inline twimbor_event_result twimbor_event_at(const twimbor_table *table, uint32_t k)
+TWIMBOR_MUST_CHECK static inline twimbor_event_result twimbor_event_at(const twimbor_table *table, uint32_t k)
 {
     return twimbor_event_at_columns(table->head, table->keys, table->heard, k);
 }
 
 /* Writes all events, by start, then code, into the first records of a lent list, and answers how many there are; the other
- * records stay. A table has at most 128 events.
+ * records stay. A list of TWIMBOR_PLACES records is always long enough.
  *
  * Refused, in this order: 16 if the table fails its tests; 15 if the list has fewer records than there are events. The number
  * of events is then 0, and all records stay. */
-static inline twimbor_listed twimbor_list(const twimbor_table *table, twimbor_event *list, size_t records)
+TWIMBOR_MUST_CHECK static inline twimbor_listed twimbor_list(const twimbor_table *table, twimbor_event *list, size_t records)
 {
     return twimbor_list_columns(table->head, table->keys, table->heard, list, records);
 }
@@ -267,7 +328,7 @@ static inline twimbor_listed twimbor_list(const twimbor_table *table, twimbor_ev
 static inline twimbor_segment twimbor_segment_at(const twimbor_table *table, size_t i)
 {
     twimbor_segment segment = {0, 0, 0, 0, false, false};
-    if (i < table->head.count && i < 128) {
+    if (i < table->head.count && i < TWIMBOR_PLACES) {
         uint64_t key = table->keys[i];
         uint32_t heard = table->heard[i];
         segment.offset = key >> 40 ? UINT32_MAX : (uint32_t)(key >> 8);
@@ -284,7 +345,7 @@ static inline twimbor_segment twimbor_segment_at(const twimbor_table *table, siz
  * their order, and then their number in `head.count`. Whether it passes the tests, twimbor_is_valid tells. */
 static inline void twimbor_set_segment(twimbor_table *table, size_t i, twimbor_segment segment)
 {
-    if (i < 128) {
+    if (i < TWIMBOR_PLACES) {
         table->keys[i] = (uint64_t)segment.offset << 8 | segment.code;
         table->heard[i] = segment.duration | (uint32_t)segment.ended << 16 | (uint32_t)segment.marked << 17
             | (uint32_t)segment.volume << 18;

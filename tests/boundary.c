@@ -124,7 +124,8 @@ static const struct {
     uint32_t segment_size, length, reports;
 } sizes[] = {
     {0, 1, 0}, {1, 0, 0}, {1, 1, 3}, {1, 16, 48}, {1, 17, 0}, {400, 400, 3}, {400, 401, 6}, {400, 6400, 48}, {400, 6401, 0},
-    {65535, 1048560, 16 * 166}, {65535, 1048561, 0}, {65536, 1, 0}, {UINT32_MAX, 1, 0}, {0x10001, 1, 0}, {0x10000001, 1, 0},
+    {65535, TWIMBOR_LONGEST_EVENT, 16 * 166}, {65535, TWIMBOR_LONGEST_EVENT + 1, 0}, {65536, 1, 0}, {UINT32_MAX, 1, 0},
+    {0x10001, 1, 0}, {0x10000001, 1, 0},
 };
 
 static void plans(void)
@@ -415,6 +416,18 @@ static void segments(void)
     EXPECT(same_segment(twimbor_segment_at(table, 0), too_high));
 }
 
+/* Words and keys at their edges; rust/tests/layout.rs compares all of them. In fewer bits the last numbers look like 0 or 1. */
+static void words(void)
+{
+    static const uint64_t unknown[] = {18, 255, 256, 257, 0x100000000, 0x100000001, UINT64_MAX};
+    static const uint32_t no_key[] = {16, 256, 257, 0x10001, UINT32_MAX};
+    EXPECT(strcmp(twimbor_refusal_text(0), "nothing is refused") == 0);
+    for (size_t i = 0; i < sizeof unknown / sizeof *unknown; i++)
+        EXPECT(strcmp(twimbor_refusal_text(unknown[i]), "a refusal that this version does not know") == 0);
+    EXPECT(twimbor_key_character(0) == '0' && twimbor_key_character(15) == 'D');
+    for (size_t i = 0; i < sizeof no_key / sizeof *no_key; i++) EXPECT(twimbor_key_character(no_key[i]) == '?');
+}
+
 int main(void)
 {
     packets();
@@ -426,6 +439,7 @@ int main(void)
     short_segments();
     failing();
     segments();
+    words();
     printf("the boundary from C: as expected\n");
     return 0;
 }

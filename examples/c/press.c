@@ -14,19 +14,21 @@ int main(void)
     twimbor_table table;
     if (twimbor_open(&table, plan.payload_type, plan.ssrc, plan.start) != 0) return 1;
 
-    uint32_t reports = twimbor_report_count(plan).reports;
-    for (uint32_t k = 1; k <= reports; k++) {
-        uint8_t packet[16];
+    twimbor_count_result count = twimbor_report_count(plan);
+    if (count.refusal != 0) return 1;
+    for (uint32_t k = 1; k <= count.reports; k++) {
+        uint8_t packet[TWIMBOR_PACKET_BYTES];
         if (twimbor_write_report(plan, k, packet, sizeof packet) != 0) return 1;
         twimbor_received received = twimbor_receive(&table, packet, sizeof packet);
-        if (received.refusal != 0) printf("packet %u is refused with %u\n", (unsigned)k, (unsigned)received.refusal);
+        if (received.refusal != 0) printf("packet %u is refused: %s\n", (unsigned)k, twimbor_refusal_text(received.refusal));
     }
 
-    twimbor_event events[128];
-    twimbor_listed listed = twimbor_list(&table, events, 128);
-    printf("%u packets, %zu segments, %zu event\n", (unsigned)reports, table.head.count, listed.events);
+    twimbor_event events[TWIMBOR_PLACES];
+    twimbor_listed listed = twimbor_list(&table, events, TWIMBOR_PLACES);
+    if (listed.refusal != 0) return 1;
+    printf("%u packets, %zu segments, %zu event\n", (unsigned)count.reports, table.head.count, listed.events);
     for (size_t i = 0; i < listed.events; i++)
-        printf("key %u, from %u on, %u units, volume %u, began %d, ended %d\n", (unsigned)events[i].code, (unsigned)events[i].start,
-            (unsigned)events[i].length, (unsigned)events[i].volume, events[i].began, events[i].ended);
+        printf("key %c, from %u on, %u units, volume %u, began %d, ended %d\n", twimbor_key_character(events[i].code),
+            (unsigned)events[i].start, (unsigned)events[i].length, (unsigned)events[i].volume, events[i].began, events[i].ended);
     return 0;
 }

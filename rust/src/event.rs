@@ -15,3 +15,17 @@ pub struct Event {
     /// Its last segment has E.
     pub ended: bool,
 }
+
+impl Event {
+    /// The key that the code stands for, `?` if it is none.
+    ///
+    /// ```
+    /// use twimbor::Event;
+    ///
+    /// let keys = (0..=16).map(|code| Event { code, ..Event::default() }.key());
+    /// assert_eq!(keys.collect::<String>(), "0123456789*#ABCD?");
+    /// ```
+    pub fn key(&self) -> char {
+        b"0123456789*#ABCD".get(usize::from(self.code)).map_or('?', |&key| key.into())
+    }
+}

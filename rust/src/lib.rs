@@ -38,8 +38,15 @@
 //! assert_eq!(table.events()?, [event, Event { start: 5000, length: 70_000, ..event }]);
 //! # Ok::<(), twimbor::Refusal>(())
 //! ```
+//!
+//! The crate is `no_std`. Its one feature, `alloc`, is on by default and gives `Table::events`;
+//! [`Table::list_into`] does the same without it, into an array.
+#![no_std]
 #![deny(unsafe_code)]
 #![warn(missing_docs)]
+
+#[cfg(feature = "alloc")]
+extern crate alloc;
 
 mod event;
 mod plan;
@@ -50,7 +57,7 @@ pub mod sys;
 mod table;
 
 pub use event::Event;
-pub use plan::{Packets, Plan};
-pub use refusal::Refusal;
-pub use report::Report;
+pub use plan::{LONGEST_EVENT, Packets, Plan};
+pub use refusal::{Refusal, UnknownRefusal};
+pub use report::{PACKET_BYTES, Report};
 pub use table::{Captured, Head, PLACES, Segment, Table, Taken};

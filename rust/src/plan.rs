@@ -1,7 +1,10 @@
-use std::ops::Range;
+use core::ops::Range;
 
 use crate::refusal::{Refusal, unless_refused};
-use crate::sys;
+use crate::{PACKET_BYTES, sys};
+
+/// How many timestamp units a planned event has at most: 16 segments of 65,535.
+pub const LONGEST_EVENT: u32 = 16 * 65_535;
 
 /// What a sender plans for one event.
 ///
@@ -69,11 +72,11 @@ pub struct Packets {
 }
 
 impl Iterator for Packets {
-    type Item = [u8; 16];
+    type Item = [u8; PACKET_BYTES];
 
-    fn next(&mut self) -> Option<[u8; 16]> {
+    fn next(&mut self) -> Option<[u8; PACKET_BYTES]> {
         let k = self.numbers.next()?;
-        let mut packet = [0; 16];
+        let mut packet = [0; PACKET_BYTES];
         // Never refused: the plan was in range when its reports were counted, and k is one of them.
         self.plan.write_report(k, &mut packet).ok()?;
         Some(packet)

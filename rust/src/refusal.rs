@@ -1,5 +1,5 @@
-use std::error::Error;
-use std::fmt;
+use core::error::Error;
+use core::fmt;
 
 /// Why a call refused what it was given. It gives the first reason that holds: [`InvalidTable`]
 /// before all others, then by rising number, but [`Packed`] at the place of [`NotOneReport`].
@@ -16,8 +16,11 @@ use std::fmt;
 /// assert_eq!(refusal.number(), 1);
 /// assert_eq!(refusal.to_string(), "the packet has fewer than 12 bytes");
 /// ```
+///
+/// They are ordered by number.
 #[repr(u8)]
-#[derive(Clone, Copy, Debug, PartialEq, Eq, Hash)]
+#[derive(Clone, Copy, Debug, PartialEq, Eq, PartialOrd, Ord, Hash)]
+#[non_exhaustive]
 pub enum Refusal {
     /// The packet has fewer than 12 bytes.
     TooShort = 1,
@@ -53,12 +56,14 @@ pub enum Refusal {
     InvalidTable = 16,
     /// The payload has 8, 12 or more bytes in whole fours: several reports in one packet.
     Packed = 17,
+    /// A refusal that this version does not know: the static library is newer than the crate.
+    Unknown = 255,
 }
 
 use Refusal::*;
 
 impl Refusal {
-    /// All refusals, by number.
+    /// All refusals that this version knows, by number.
     pub const ALL: [Refusal; 17] = [
         TooShort,
         WrongVersion,
@@ -79,11 +84,40 @@ impl Refusal {
         Packed,
     ];
 
-    /// The refusal's number, 1 to 17.
+    /// The refusal's number, 1 to 17; 255 for [`Unknown`](Refusal::Unknown).
     pub fn number(self) -> u8 {
         self as u8
     }
 }
+
+impl TryFrom<u8> for Refusal {
+    type Error = UnknownRefusal;
+
+    /// The refusal with this number, 1 to 17.
+    fn try_from(number: u8) -> Result<Refusal, UnknownRefusal> {
+        let place = usize::from(number).wrapping_sub(1);
+        Refusal::ALL.get(place).copied().ok_or(UnknownRefusal(number))
+    }
+}
+
+/// A number that is no refusal's, as far as this version knows.
+///
+/// ```
+/// use twimbor::{Refusal, UnknownRefusal};
+///
+/// assert_eq!(Refusal::try_from(11), Ok(Refusal::TableFull));
+/// assert_eq!(Refusal::try_from(18), Err(UnknownRefusal(18)));
+/// ```
+#[derive(Clone, Copy, Debug, PartialEq, Eq, Hash)]
+pub struct UnknownRefusal(pub u8);
+
+impl fmt::Display for UnknownRefusal {
+    fn fmt(&self, f: &mut fmt::Formatter) -> fmt::Result {
+        write!(f, "this version knows no refusal with the number {}", self.0)
+    }
+}
+
+impl Error for UnknownRefusal {}
 
 impl fmt::Display for Refusal {
     fn fmt(&self, f: &mut fmt::Formatter) -> fmt::Result {
@@ -108,6 +142,7 @@ impl fmt::Display for Refusal {
                  outside its range"
             }
             Packed => "the packet's payload is several reports packed together",
+            Unknown => "a refusal that this version does not know",
         })
     }
 }
@@ -115,9 +150,20 @@ impl fmt::Display for Refusal {
 impl Error for Refusal {}
 
 /// The value of a call whose answer has this refusal number, 0 for none.
-pub(crate) fn unless_refused<T>(number: u8, value: T) -> Result<T, Refusal> {
-    match number {
-        0 => Ok(value),
-        _ => Err(Refusal::ALL[usize::from(number) - 1]),
+pub(crate) fn unless_refused<T>(number: impl Into<u64>, value: T) -> Result<T, Refusal> {
+    let number = number.into();
+    if number == 0 {
+        return Ok(value);
+    }
+    let known = u8::try_from(number).ok().and_then(|number| Refusal::try_from(number).ok());
+    Err(known.unwrap_or(Unknown))
+}
+
+#[test]
+fn an_unknown_number_is_refused() {
+    assert_eq!(unless_refused(0u8, ()), Ok(()));
+    assert_eq!(unless_refused(17u8, ()), Err(Packed));
+    for number in [18, 255, 256, 257, u64::MAX] {
+        assert_eq!(unless_refused(number, ()), Err(Unknown));
     }
 }

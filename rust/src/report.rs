@@ -1,10 +1,13 @@
 use crate::refusal::{Refusal, unless_refused};
 use crate::sys;
 
+/// How many bytes are written of a report.
+pub const PACKET_BYTES: usize = 16;
+
 /// One report on the wire.
 ///
 /// ```
-/// use twimbor::{Refusal, Report};
+/// use twimbor::{PACKET_BYTES, Refusal, Report};
 ///
 /// let report = Report {
 ///     marker: true,
@@ -17,7 +20,7 @@ use crate::sys;
 ///     volume: 10,
 ///     duration: 400,
 /// };
-/// let mut packet = [0; 16];
+/// let mut packet = [0; PACKET_BYTES];
 /// report.write(&mut packet)?;
 /// assert_eq!(Report::read(&packet), Ok(report));
 /// assert_eq!(Report::read(&packet[..15]), Err(Refusal::NotOneReport));

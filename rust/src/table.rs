@@ -1,3 +1,6 @@
+#[cfg(feature = "alloc")]
+use alloc::{vec, vec::Vec};
+
 use crate::refusal::{Refusal, unless_refused};
 use crate::{Event, sys};
 
@@ -115,7 +118,21 @@ pub struct Captured {
 
 impl Table {
     /// An empty table for one payload type and SSRC. Refusal: 12.
-    pub fn open(payload_type: u32, ssrc: u32, origin: u32) -> Result<Table, Refusal> {
+    ///
+    /// The payload type is a number of any type: a report's, a plan's and a head's go in as they are.
+    ///
+    /// ```
+    /// use twimbor::{Refusal, Report, Table};
+    ///
+    /// let report = Report { payload_type: 101, ..Report::default() };
+    /// let table = Table::open(report.payload_type, report.ssrc, report.timestamp)?;
+    /// let next = Table::open(table.head.payload_type, table.head.ssrc, 48_000)?;
+    /// assert_eq!(next.head.payload_type, 101);
+    /// assert_eq!(Table::open(128, 7, 0), Err(Refusal::OutOfRange));
+    /// # Ok::<(), Refusal>(())
+    /// ```
+    pub fn open(payload_type: impl TryInto<u32>, ssrc: u32, origin: u32) -> Result<Table, Refusal> {
+        let payload_type = payload_type.try_into().map_err(|_| Refusal::OutOfRange)?;
         let opened = sys::open_table(payload_type, ssrc, origin);
         unless_refused(opened.refusal, opened.table)
     }
@@ -123,7 +140,7 @@ impl Table {
     /// A table that holds these segments. Refusals: 12; 16 if it fails the tests of
     /// [`Table::is_valid`].
     pub fn from_segments(
-        payload_type: u32,
+        payload_type: impl TryInto<u32>,
         ssrc: u32,
         origin: u32,
         segments: &[Segment],
@@ -165,7 +182,7 @@ impl Table {
         let received = sys::receive_columns(self.head, &mut self.keys, &mut self.heard, packet);
         self.head.count = received.count;
         let taken = if received.is_new { Taken::New } else { Taken::Known };
-        (unless_refused(received.refusal as u8, taken), received.probes)
+        (unless_refused(received.refusal, taken), received.probes)
     }
 
     /// Receives a whole capture: the packets of a buffer's RFC 4571 frames, each as by
@@ -196,7 +213,8 @@ impl Table {
         unless_refused(got.refusal, captured)
     }
 
-    /// All events, by start, then code. Refusal: 16.
+    /// All events, by start, then code. Refusal: 16. Needs the feature `alloc`.
+    #[cfg(feature = "alloc")]
     pub fn events(&self) -> Result<Vec<Event>, Refusal> {
         let mut list = vec![Event::default(); PLACES];
         let events = self.list_into(&mut list)?;

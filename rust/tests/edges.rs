@@ -2,7 +2,7 @@
 //! size and of whole captures, and the words of the refusals.
 
 use std::collections::HashSet;
-use twimbor::{Captured, Event, Plan, Refusal, Report, Segment, Table, Taken};
+use twimbor::{Captured, Event, Plan, Refusal, Report, Segment, Table, Taken, UnknownRefusal};
 
 const P7: Plan = Plan {
     payload_type: 101,
@@ -297,4 +297,20 @@ fn each_refusal_has_its_number_and_words() {
     assert!(Refusal::ALL.map(Refusal::number).into_iter().eq(1..=17));
     let words = Refusal::ALL.map(|refusal| refusal.to_string());
     assert_eq!(HashSet::from(words).len(), 17);
+    assert!(Refusal::ALL.is_sorted() && Refusal::Packed < Refusal::Unknown);
+    for number in 0..=255 {
+        let known = Refusal::ALL.into_iter().find(|refusal| refusal.number() == number);
+        assert_eq!(Refusal::try_from(number), known.ok_or(UnknownRefusal(number)));
+    }
+}
+
+#[test]
+fn a_payload_type_may_be_of_any_width() {
+    let table = Table::open(101, 7, 0).unwrap();
+    let head = table.head;
+    assert_eq!(Table::open(head.payload_type, 7, 0).as_ref(), Ok(&table));
+    assert_eq!(Table::open(P7.payload_type, 7, 0).as_ref(), Ok(&table));
+    assert_eq!(Table::from_segments(101_usize, 7, 0, &[]), Ok(table));
+    let refused = [Table::open(-1, 7, 0), Table::open(128, 7, 0), Table::open(1_u64 << 32, 7, 0)];
+    assert_eq!(refused, [const { Err(Refusal::OutOfRange) }; 3]);
 }

@@ -1,11 +1,14 @@
-//! The structs and numbers of this crate compared with those of include/twimbor.h: the test writes
-//! a C file that asserts this crate's, and the C compiler checks it.
+//! The structs, numbers and words of this crate compared with those of include/twimbor.h: the tests
+//! write a C file that asserts this crate's, for the C compiler to check, and one that prints the
+//! header's.
 
 use std::fs;
 use std::mem::{offset_of, size_of};
 use std::process::Command;
 use twimbor::sys::{Captured, CountResult, EventResult, Listed, Opened, ReadResult, Received};
-use twimbor::{Event, Head, Plan, Refusal, Report, Table};
+use twimbor::{Event, Head, LONGEST_EVENT, PACKET_BYTES, PLACES, Plan, Refusal, Report, Table};
+
+const HEADER: &str = concat!(env!("CARGO_MANIFEST_DIR"), "/../include/twimbor.h");
 
 fn assertion(c: &str, value: usize) -> String {
     format!("_Static_assert({c} == {value}, \"not as in Rust\");\n")
@@ -44,8 +47,7 @@ fn name_in_c(refusal: Refusal) -> String {
 
 #[test]
 fn structs_and_numbers_are_the_headers() {
-    let header = concat!(env!("CARGO_MANIFEST_DIR"), "/../include/twimbor.h");
-    let mut file = format!("#include \"{header}\"\n");
+    let mut file = format!("#include \"{HEADER}\"\n");
     layout!(file, Report as "twimbor_report" {
         marker, payload_type, sequence, timestamp, ssrc, code, ended, volume, duration
     });
@@ -67,8 +69,36 @@ fn structs_and_numbers_are_the_headers() {
     for refusal in Refusal::ALL {
         file += &assertion(&name_in_c(refusal), usize::from(refusal.number()));
     }
+    file += &assertion("TWIMBOR_PLACES", PLACES);
+    file += &assertion("TWIMBOR_LONGEST_EVENT", LONGEST_EVENT as usize);
+    file += &assertion("TWIMBOR_PACKET_BYTES", PACKET_BYTES);
     let path = concat!(env!("CARGO_TARGET_TMPDIR"), "/layout.c");
     fs::write(path, file).unwrap();
-    let checked = Command::new("cc").args(["-std=c11", "-fsyntax-only", path]).status();
-    assert!(checked.expect("a C compiler named cc").success());
+    compile(&["-fsyntax-only", path]);
+}
+
+fn compile(arguments: &[&str]) {
+    let compiled = Command::new("cc").arg("-std=c11").args(arguments).status();
+    assert!(compiled.expect("a C compiler named cc").success());
+}
+
+#[test]
+fn version_words_and_keys_are_the_headers() {
+    let main = "int main(void)
+{
+    puts(TWIMBOR_VERSION);
+    for (unsigned number = 1; number <= 255; number++) puts(twimbor_refusal_text(number));
+    for (unsigned code = 0; code <= 255; code++) putchar(twimbor_key_character(code));
+}";
+    let path = concat!(env!("CARGO_TARGET_TMPDIR"), "/words.c");
+    let program = concat!(env!("CARGO_TARGET_TMPDIR"), "/words");
+    fs::write(path, format!("#include \"{HEADER}\"\n#include <stdio.h>\n{main}\n")).unwrap();
+    compile(&[path, "-o", program]);
+    let mut expected = format!("{}\n", env!("CARGO_PKG_VERSION"));
+    for number in 1..=255 {
+        expected += &format!("{}\n", Refusal::try_from(number).unwrap_or(Refusal::Unknown));
+    }
+    expected.extend((0..=255).map(|code| Event { code, ..Event::default() }.key()));
+    let printed = Command::new(program).output().unwrap().stdout;
+    assert_eq!(String::from_utf8_lossy(&printed), expected);
 }

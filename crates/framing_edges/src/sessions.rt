@@ -1,6 +1,33 @@
 // The text of session.txt, good and bad in each way.
+use session::Fault;
 use session::Session;
 use session::session_of;
+
+fn fault(f: Fault) {
+    match f {
+        Fault::Name => {
+            io::write_all(1, b" name\n");
+        }
+        Fault::NoNumber => {
+            io::write_all(1, b" no number\n");
+        }
+        Fault::LeadingZero => {
+            io::write_all(1, b" leading zero\n");
+        }
+        Fault::NoDigit => {
+            io::write_all(1, b" no digit\n");
+        }
+        Fault::TooLarge => {
+            io::write_all(1, b" too large\n");
+        }
+        Fault::NoNewline => {
+            io::write_all(1, b" no newline\n");
+        }
+        Fault::MoreText => {
+            io::write_all(1, b" more text\n");
+        }
+    }
+}
 
 fn shown(a: Session) {
     match a {
@@ -17,8 +44,10 @@ fn shown(a: Session) {
             io::print_decimal(1, origin as u64);
             io::write_all(1, b"\n");
         }
-        Session::Bad => {
-            io::write_all(1, b"session bad\n");
+        Session::Bad { line, fault: f } => {
+            io::write_all(1, b"session bad ");
+            io::print_decimal(1, line as u64);
+            fault(f);
         }
     }
 }
@@ -38,6 +67,10 @@ fn numbers() {
     row(b"pt=\nssrc=7\norigin=0\n"); // no number
     row(b"pt=+5\nssrc=7\norigin=0\n");
     row(b"pt= 5\nssrc=7\norigin=0\n");
+    row(b"pt=5 \nssrc=7\norigin=0\n");
+    row(b"pt=5\nssrc=0x7\norigin=0\n");
+    row(b"pt=5\nssrc=7\norigin=-1\n");
+    row(b"pt=5\nssrc=99999999999x\norigin=0\n"); // the first of two faults
 }
 
 fn lines() {
@@ -48,6 +81,9 @@ fn lines() {
     row(b"ssrc=7\npt=5\norigin=0\n"); // another order
     row(b"PT=5\nSSRC=7\nORIGIN=0\n");
     row(b"pt=5\nssrc=7\n"); // two lines
+    row(b"pt=5\nssrc=7\nori"); // cut within a name
+    row(b"pt=5\nssrc="); // and after it
+    row(b"pt=5\nssrc=0"); // and after the number
     row(b"pt=128\nssrc=7\norigin=0\n"); // good as a text; open refuses it
     row(b"");
 }

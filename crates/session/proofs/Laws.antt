@@ -6,15 +6,17 @@ use mathlib.Core.List.{List, [], _∷_}
 use native.Mathlib.Numerals.{add-one}
 use native.Mathlib.Omega.{arith}
 use borrow.Author.Needs.{needs}
-use borrow.Author.Tests.{lt-leb, le-leb, eq-eqb, ne-eqb, eqb-true, ltb-true, ltb-false, not-true, not-false}
+use borrow.Author.Tests.{lt-leb, le-leb, lt-ltb, le-ltb, eq-eqb, ne-eqb, leb-true, ltb-true, eqb-true, eqb-false, not-true, not-false}
 use lib.Dec.{eqb, leb, ltb}
-use lib.ListN.{length, getD, drop, length-drop, drop-of-length-le, List·getD-eq-default}
+use lib.ListN.{length, getD, drop, length-drop, drop-of-length-le}
 use lib.Seq.{drop-cons}
 use Rattle.model.proofs.Basics.{and-then}
+use Rattle.session.specs.declared.Fault.{Fault}
+use Rattle.session.specs.declared.Fault.the-variants.{Name, NoNumber, LeadingZero, NoDigit, TooLarge, NoNewline, MoreText}
 use Rattle.session.specs.declared.Session.the-variants.{Given, Bad}
 use Rattle.session.specs.declared.Line.{Line}
 use Rattle.session.specs.declared.Line.the-variants.{Read, Wrong}
-use Rattle.session.specs.Session.{isDigit, digitsOf, followedBy, value, isDecimal, lineOf, numberAt, startsWith, lineAt, typeName, sourceName, originName, sessionOf}
+use Rattle.session.specs.Session.{isDigit, digitsOf, followedBy, value, noZeroAhead, lineOf, numberAt, startsWith, lineAt, typeName, sourceName, originName, sessionOf}
 
 -- DIGITS
 
@@ -35,11 +37,11 @@ grows n [] = omega arith
 grows n (d ∷ ds) = omega (arith, grows (n * 10 + (d - 48)) ds)
 
 module _ (first digits number end : ℕ) where
-  pub no-digits : digits ≡ 0 → Wrong ≡ lineOf first digits number end
+  pub no-digits : digits ≡ 0 → Wrong NoNumber ≡ lineOf first digits number end
   no-digits h = rw (eq-eqb digits 0 h)
 
   module _ (some : digits ≡ 0 → ⊥) where
-    pub leading-zero : 1 < digits → first ≡ 48 → Wrong ≡ lineOf first digits number end
+    pub leading-zero : 1 < digits → first ≡ 48 → Wrong LeadingZero ≡ lineOf first digits number end
     leading-zero h e = rw (ne-eqb digits 0 some, lt-leb digits 1 h, eq-eqb first 48 e)
 
     pub one-digit : digits ≤ 1 → Read number end ≡ lineOf first digits number end
@@ -74,15 +76,14 @@ module _ (bs : List ℕ) (at : ℕ) where
       ends-at : at + length (digitsOf (drop at bs)) ≡ i
       ends-at = omega (arith, all-read, w .within)
 
-      no-newline : (getD bs i 0 ≡ 10 → ⊥) → Wrong ≡ numberAt bs at
-      unfolding numberAt
-      no-newline h = rw (ends-at, ne-eqb (getD bs i 0) 10 h)
+      in-range : leb (value (digitsOf (drop at bs))) 4294967295 ≡ true
+      in-range = le-leb (value (digitsOf (drop at bs))) 4294967295 (omega (arith, w .small, all-said))
 
-    pub text-ends : length bs ≤ i → Wrong ≡ numberAt bs at
-    unfolding digitsOf
+    pub text-ends : length bs ≤ i → Wrong NoNewline ≡ numberAt bs at
+    unfolding digitsOf numberAt
     text-ends h =
-        no-newline (rw (drop-of-length-le bs {i = i} h))
-        (λ e. let z = List·getD-eq-default bs 0 {n = i} h in absurd (omega (arith, e, z)))
+        let none : digitsOf (drop i bs) ≡ [] = rw (drop-of-length-le bs {i = i} h) in
+        rw (in-range none, ends-at none, le-ltb i (length bs) h)
 
     module _ (some : i < length bs) (b : ℕ) (is : b ≡ getD bs i 0) where
       front : drop i bs ≡ getD bs i 0 ∷ drop (i + 1) bs
@@ -92,19 +93,25 @@ module _ (bs : List ℕ) (at : ℕ) where
       unfolding digitsOf
       stops e = rw (front, ← is, e)
 
+      there : ltb i (length bs) ≡ true
+      there = lt-ltb i (length bs) some
+
       pub number-ends : b ≡ 10 → (first : ℕ) → first ≡ getD bs at 0 → (r : Line) → r ≡ lineOf first (i - at) number (i + 1) → r ≡ numberAt bs at
       unfolding numberAt
       number-ends e first f r g =
           let z = stops (below b (omega arith)) in
-          let fits : leb (value (digitsOf (drop at bs))) 4294967295 ≡ true = le-leb (value (digitsOf (drop at bs))) 4294967295 (omega (arith, w .small, all-said z)) in
-          g ∙ rw (f, ends-at z, ← is, eq-eqb b 10 e, fits, all-read z, ← all-said z)
+          g ∙ rw (f, in-range z, ends-at z, there, ← is, eq-eqb b 10 e, all-read z, ← all-said z)
 
       module _ (more : b ≡ 10 → ⊥) where
-        pub no-digit-low : b < 48 → Wrong ≡ numberAt bs at
-        no-digit-low h = no-newline (stops (below b h)) (λ z. more (is ∙ z))
+        no-digit : digitsOf (drop i bs) ≡ [] → Wrong NoDigit ≡ numberAt bs at
+        unfolding numberAt
+        no-digit z = rw (in-range z, ends-at z, there, ← is, ne-eqb b 10 more)
 
-        pub no-digit-high : 57 < b → Wrong ≡ numberAt bs at
-        no-digit-high h = no-newline (stops (above b h)) (λ z. more (is ∙ z))
+        pub no-digit-low : b < 48 → Wrong NoDigit ≡ numberAt bs at
+        no-digit-low h = no-digit (stops (below b h))
+
+        pub no-digit-high : 57 < b → Wrong NoDigit ≡ numberAt bs at
+        no-digit-high h = no-digit (stops (above b h))
 
       module _ (low : 48 ≤ b) (high : b ≤ 57) (m : ℕ) (next : m ≡ number * 10 + (b - 48)) where
         goes : digitsOf (drop i bs) ≡ b ∷ digitsOf (drop (i + 1) bs)
@@ -115,11 +122,10 @@ module _ (bs : List ℕ) (at : ℕ) where
         unfolding followedBy
         said = rw next (rw goes at (w .says))
 
-        pub too-large : 4294967295 < m → Wrong ≡ numberAt bs at
+        pub too-large : 4294967295 < m → Wrong TooLarge ≡ numberAt bs at
         unfolding numberAt
         too-large h =
-            let big : leb (value (digitsOf (drop at bs))) 4294967295 ≡ false = lt-leb (value (digitsOf (drop at bs))) 4294967295 (omega (arith, grows m (digitsOf (drop (i + 1) bs)), said)) in
-            rw (big, and-false (eqb (getD bs (at + length (digitsOf (drop at bs))) 0) 10))
+            rw (lt-leb (value (digitsOf (drop at bs))) 4294967295 (omega (arith, grows m (digitsOf (drop (i + 1) bs)), said)))
 
         pub reading-on : m ≤ 4294967295 → Reading bs at (i + 1) m
         reading-on h = record { within = omega (arith, w .within); small = h; count = omega (arith, w .within, w .count, ap length goes); says = said }
@@ -166,7 +172,7 @@ module _ (name bs : List ℕ) (at : ℕ) where
       name-goes-on e = rw (eq-eqb (getD bs (at + i) 0) (getD name i 0) e) at here
 
   module _ (has : Bool) (test : has ≡ startsWith name (drop at bs)) where
-    pub not-named : not has ≡ true → Wrong ≡ lineAt name bs at
+    pub not-named : not has ≡ true → Wrong Name ≡ lineAt name bs at
     unfolding lineAt
     not-named n = rw (sym test ∙ not-true has n)
 
@@ -180,21 +186,25 @@ module _ (name bs : List ℕ) (at : ℕ) where
 
 -- LINES
 
--- a newline stands within the text
-pub inside : (bs : List ℕ) (k : ℕ) → getD bs k 0 ≡ 10 → k < length bs
-inside bs k e = go (ltb k (length bs)) refl
-  where
-    go : (b : Bool) → ltb k (length bs) ≡ b → k < length bs
-    go true h = ltb-true k (length bs) h
-    go false h = let z = List·getD-eq-default bs 0 {n = k} (ltb-false k (length bs) h) in absurd (omega (arith, e, z))
-
-pub no-line : {n e : ℕ} → Wrong ≡ Read n e → ⊥
+pub no-line : {f : Fault} {n e : ℕ} → Wrong f ≡ Read n e → ⊥
 no-line x = let u : _≡_ {A = ℕ} 0 1 = cc in omega (arith, u)
 
+-- what is read as a number passes each test
+pub record Passed (bs : List ℕ) (at n e : ℕ) : Type 0 where
+  pub small : value (digitsOf (drop at bs)) ≤ 4294967295
+  pub there : at + length (digitsOf (drop at bs)) < length bs
+  pub ended : getD bs (at + length (digitsOf (drop at bs))) 0 ≡ 10
+  pub some : 0 < length (digitsOf (drop at bs))
+  pub leads : noZeroAhead (getD bs at 0) (length (digitsOf (drop at bs))) ≡ true
+  pub number : value (digitsOf (drop at bs)) ≡ n
+  pub next : at + length (digitsOf (drop at bs)) + 1 ≡ e
+
 module _ (bs : List ℕ) (at n e : ℕ) where
-  number-within : numberAt bs at ≡ Read n e → e ≤ length bs
+  pub number-passed : numberAt bs at ≡ Read n e → Passed bs at n e
   unfolding numberAt
-  number-within = go (eqb (getD bs end 0) 10) refl (leb (value digits) 4294967295) (isDecimal (getD bs at 0) (length digits))
+  number-passed =
+      go (leb (value digits) 4294967295) refl (ltb end (length bs)) refl (eqb (getD bs end 0) 10) refl
+      (eqb (length digits) 0) refl (noZeroAhead (getD bs at 0) (length digits)) refl
     where
       digits : List ℕ
       digits = digitsOf (drop at bs)
@@ -202,40 +212,54 @@ module _ (bs : List ℕ) (at n e : ℕ) where
       end : ℕ
       end = at + length digits
 
-      go : (b : Bool) → eqb (getD bs end 0) 10 ≡ b → (c d : Bool) → cond (b && c) (cond d (Read (value digits) (end + 1)) Wrong) Wrong ≡ Read n e → e ≤ length bs
-      go true h true true x = let y : end + 1 ≡ e = cc in omega (arith, inside bs end (eqb-true (getD bs end 0) 10 h), y)
-      go true h true false x = absurd (no-line x)
-      go true h false d x = absurd (no-line x)
-      go false h c d x = absurd (no-line x)
+      go : (a : Bool) → leb (value digits) 4294967295 ≡ a → (b : Bool) → ltb end (length bs) ≡ b → (c : Bool) → eqb (getD bs end 0) 10 ≡ c
+          → (d : Bool) → eqb (length digits) 0 ≡ d → (f : Bool) → noZeroAhead (getD bs at 0) (length digits) ≡ f
+          → cond (not a) (Wrong TooLarge) (cond (not b) (Wrong NoNewline) (cond c (cond d (Wrong NoNumber) (cond f (Read (value digits) (end + 1)) (Wrong LeadingZero))) (Wrong NoDigit))) ≡ Read n e
+          → Passed bs at n e
+      go true small true there true ended false some true leads x =
+          record {
+            small = leb-true (value digits) 4294967295 small;
+            there = ltb-true end (length bs) there;
+            ended = eqb-true (getD bs end 0) 10 ended;
+            some = omega (arith, eqb-false (length digits) 0 some);
+            leads = leads;
+            number = cc;
+            next = cc;
+          }
+      go true small true there true ended false some false leads x = absurd (no-line x)
+      go true small true there true ended true some f leads x = absurd (no-line x)
+      go true small true there false ended d some f leads x = absurd (no-line x)
+      go true small false there c ended d some f leads x = absurd (no-line x)
+      go false small b there c ended d some f leads x = absurd (no-line x)
 
 module _ (bs : List ℕ) (at n e : ℕ) where
   pub line-within : (name : List ℕ) (l : Line) → l ≡ lineAt name bs at → l ≡ Read n e → e ≤ length bs
   unfolding lineAt
   line-within name l f r = go (startsWith name (drop at bs)) (sym f ∙ r)
     where
-      go : (b : Bool) → cond b (numberAt bs (at + length name)) Wrong ≡ Read n e → e ≤ length bs
-      go true x = number-within bs (at + length name) n e x
+      go : (b : Bool) → cond b (numberAt bs (at + length name)) (Wrong Name) ≡ Read n e → e ≤ length bs
+      go true x = let p = number-passed bs (at + length name) n e x in omega (arith, p .there, p .next)
       go false x = absurd (no-line x)
 
 -- THE THREE LINES
 
 module _ (bs : List ℕ) (first : Line) (is-first : first ≡ lineAt typeName bs 0) where
-  pub no-type : first ≡ Wrong → Bad ≡ sessionOf bs
+  pub no-type : (f : Fault) → first ≡ Wrong f → Bad 1 f ≡ sessionOf bs
   unfolding sessionOf
-  no-type e = rw (sym is-first ∙ e)
+  no-type f e = rw (sym is-first ∙ e)
 
   module _ (type second : ℕ) (r : first ≡ Read type second) (middle : Line) (is-middle : middle ≡ lineAt sourceName bs second) where
-    pub no-source : middle ≡ Wrong → Bad ≡ sessionOf bs
+    pub no-source : (f : Fault) → middle ≡ Wrong f → Bad 2 f ≡ sessionOf bs
     unfolding sessionOf
-    no-source e = rw (sym is-first ∙ r, sym is-middle ∙ e)
+    no-source f e = rw (sym is-first ∙ r, sym is-middle ∙ e)
 
     module _ (source third : ℕ) (q : middle ≡ Read source third) (last : Line) (is-last : last ≡ lineAt originName bs third) where
-      pub no-origin : last ≡ Wrong → Bad ≡ sessionOf bs
+      pub no-origin : (f : Fault) → last ≡ Wrong f → Bad 3 f ≡ sessionOf bs
       unfolding sessionOf
-      no-origin e = rw (sym is-first ∙ r, sym is-middle ∙ q, sym is-last ∙ e)
+      no-origin f e = rw (sym is-first ∙ r, sym is-middle ∙ q, sym is-last ∙ e)
 
       module _ (origin end : ℕ) (p : last ≡ Read origin end) where
-        pub more-text : (end ≡ length bs → ⊥) → Bad ≡ sessionOf bs
+        pub more-text : (end ≡ length bs → ⊥) → Bad 4 MoreText ≡ sessionOf bs
         unfolding sessionOf
         more-text e = rw (sym is-first ∙ r, sym is-middle ∙ q, sym is-last ∙ p, ne-eqb end (length bs) e)
 

@@ -2,17 +2,19 @@
 -- these numbers, and what is read as numbers is written so.
 use Prim.Native.Nat.{ℕ, zero, suc, _+_, _-_, _*_, _/_, _%_, _^_, _≤_, _<_}
 use mathlib.Core.Path.{_≡_, refl, sym, _∙_, ap}
-use mathlib.Core.Bool.{Bool, true, false, not, cond, _&&_, _||_, false≢true}
+use mathlib.Core.Bool.{Bool, true, false, cond, false≢true}
 use mathlib.Core.List.{List, [], _∷_, _++_, append-assoc, append-nil}
 use native.Mathlib.Nat.{add-mul, mul-assoc, mul-comm, mul-le-mul-right, pow-zero, pow-suc, div-one, div-div-eq-div-mul, mul-add-div-right, div-eq-of-lt}
 use native.Mathlib.Numerals.{add-one}
 use native.Mathlib.Omega.{arith}
-use borrow.Author.Tests.{le-leb, lt-leb, eq-eqb, ne-eqb, eqb-true, leb-true, leb-false}
+use borrow.Author.Tests.{le-leb, lt-leb, lt-ltb, eq-eqb, ne-eqb, eqb-true, leb-true, leb-false}
 use lib.Dec.{eqb, leb}
 use lib.ListN.{length, getD, drop, length-append, length-drop}
 use lib.Seq.{drop-cons, drop-length, drop-append-seam, getD-append-seam, getD-drop, drop-drop}
 use Rattle.model.proofs.Basics.{and-then}
-use Rattle.session.proofs.Laws.{inside, no-line, line-within}
+use Rattle.session.proofs.Laws.{no-line, Passed, number-passed, line-within}
+use Rattle.session.specs.declared.Fault.{Fault}
+use Rattle.session.specs.declared.Fault.the-variants.{Name, MoreText}
 use Rattle.session.specs.declared.Session.the-variants.{Given, Bad}
 use Rattle.session.specs.declared.Line.{Line}
 use Rattle.session.specs.declared.Line.the-variants.{Read, Wrong}
@@ -22,7 +24,7 @@ use Rattle.session.specs.Session.{
   followedBy,
   value,
   decimals,
-  isDecimal,
+  noZeroAhead,
   numberAt,
   startsWith,
   lineAt,
@@ -176,20 +178,15 @@ leading (b ∷ l) some n = go (isDigit b) refl some n
 -- ONE NUMBER
 
 -- a first digit that is not 0 where there are more makes a decimal number
-decimal-first : (first k : ℕ) → (0 < k → first ≡ 48 → ⊥) → isDecimal first (suc k) ≡ true
+decimal-first : (first k : ℕ) → (0 < k → first ≡ 48 → ⊥) → noZeroAhead first (suc k) ≡ true
 decimal-first first k h = go (leb (suc k) 1) refl
   where
-    go : (b : Bool) → leb (suc k) 1 ≡ b → isDecimal first (suc k) ≡ true
-    go true e = rw (ne-eqb (suc k) 0 (λ z. omega (arith, z)), e)
-    go false e = rw (ne-eqb (suc k) 0 (λ z. omega (arith, z)), e, ne-eqb first 48 (h (omega (arith, leb-false (suc k) 1 e))))
+    go : (b : Bool) → leb (suc k) 1 ≡ b → noZeroAhead first (suc k) ≡ true
+    go true e = rw e
+    go false e = rw (e, ne-eqb first 48 (h (omega (arith, leb-false (suc k) 1 e))))
 
-positive : (n : ℕ) → not (eqb n 0) ≡ true → 0 < n
-positive zero e = absurd (false≢true e)
-positive (suc n) e = omega arith
-
-no-zero : (first k : ℕ) → isDecimal first k ≡ true → 1 < k → first ≡ 48 → ⊥
-no-zero first k t more z =
-    false≢true (rw (lt-leb k 1 more, eq-eqb first 48 z) at (and-then (not (eqb k 0)) (leb k 1 || not (eqb first 48)) t .1))
+no-zero : (first k : ℕ) → noZeroAhead first k ≡ true → 1 < k → first ≡ 48 → ⊥
+no-zero first k t more z = false≢true (rw (lt-leb k 1 more, eq-eqb first 48 z) at t)
 
 module _ (bs : List ℕ) (at : ℕ) where
   at-front : (i : ℕ) → getD bs (at + i) 0 ≡ getD (drop at bs) i 0
@@ -205,48 +202,39 @@ module _ (bs : List ℕ) (at : ℕ) where
       let end : getD bs (at + length ds) 0 ≡ 10 = at-front (length ds) ∙ rw e (getD-append-seam ds 10 rest 0) in
       let head : getD bs at 0 ≡ getD (decimals (suc (d .more)) n ++ (10 ∷ rest)) 0 0 =
       (let z : at ≡ at + 0 = omega arith in ap (λ (x : ℕ). getD bs x 0) z) ∙ at-front 0 ∙ rw (e, t) in
-      let decimal : isDecimal (getD bs at 0) (length ds) ≡ true =
+      let some : eqb (length ds) 0 ≡ false = ne-eqb (length ds) 0 (λ z. omega (arith, z, long)) in
+      let there : at + length ds < length bs =
+      omega (arith, length-drop at bs, ap length e, length-append ds (10 ∷ rest)) in
+      let decimal : noZeroAhead (getD bs at 0) (length ds) ≡ true =
       rw long (decimal-first (getD bs at 0) (d .more)
       (λ s f. first-digit (d .more) n (10 ∷ rest) (d .fewest s) (rw (add-one (d .more)) at (d .fits)) (sym head ∙ f))) in
-      rw (all, eq-eqb (getD bs (at + length ds) 0) 10 end, le-leb (value ds) 4294967295 (omega (arith, said, small)), decimal, said)
+      let in-range = le-leb (value ds) 4294967295 (omega (arith, said, small)) in
+      rw (all, in-range, lt-ltb (at + length ds) (length bs) there, eq-eqb (getD bs (at + length ds) 0) 10 end, some, decimal, said)
 
   number-then : (n e : ℕ) → numberAt bs at ≡ Read n e
       → (ds : List ℕ) × (drop at bs ≡ ds ++ (10 ∷ drop e bs)) × Decimal n ds × (n ≤ 4294967295)
-  unfolding numberAt
-  number-then n e = go (eqb (getD bs end 0) 10) refl (leb (value ds) 4294967295) refl (isDecimal (getD bs at 0) (length ds)) refl
+  number-then n e x =
+      let next : suc (at + length ds) ≡ e = sym (add-one (at + length ds)) ∙ p .next in
+      let rest : drop (length ds) (drop at bs) ≡ 10 ∷ drop e bs =
+      drop-drop (length ds) at bs ∙ drop-cons bs (at + length ds) 0 (p .there) ∙ rw (p .ended, next) in
+      (ds, split-digits (drop at bs) ∙ rw rest, rw (p .number) at decimal, omega (arith, p .number, p .small))
     where
+      p : Passed bs at n e
+      p = number-passed bs at n e x
+
       ds : List ℕ
       ds = digitsOf (drop at bs)
 
-      end : ℕ
-      end = at + length ds
-
-      -- the parts of the test
-      decimal : isDecimal (getD bs at 0) (length ds) ≡ true → Decimal (value ds) ds
-      decimal t =
-          let some : 0 < length ds = positive (length ds) (and-then (not (eqb (length ds) 0)) (leb (length ds) 1 || not (eqb (getD bs at 0) 48)) t .0) in
-          let k : length ds - 1 + 1 ≡ length ds = omega (arith, some) in
+      decimal : Decimal (value ds) ds
+      decimal =
+          let k : length ds - 1 + 1 ≡ length ds = omega (arith, p .some) in
           record {
             more = length ds - 1;
             text = rw k (sym (digits-back (drop at bs) 0));
             fits = rw k (below-places (drop at bs));
-            fewest = λ s. leading (drop at bs) some (λ z. no-zero (getD bs at 0) (length ds) t (omega (arith, s))
+            fewest = λ s. leading (drop at bs) (p .some) (λ z. no-zero (getD bs at 0) (length ds) (p .leads) (omega (arith, s))
                 ((let y : at ≡ at + 0 = omega arith in ap (λ (x : ℕ). getD bs x 0) y) ∙ at-front 0 ∙ z));
           }
-
-      go : (b : Bool) → eqb (getD bs end 0) 10 ≡ b → (c : Bool) → leb (value ds) 4294967295 ≡ c → (d : Bool) → isDecimal (getD bs at 0) (length ds) ≡ d
-          → cond (b && c) (cond d (Read (value ds) (end + 1)) Wrong) Wrong ≡ Read n e
-          → (xs : List ℕ) × (drop at bs ≡ xs ++ (10 ∷ drop e bs)) × Decimal n xs × (n ≤ 4294967295)
-      go true h true j true t x =
-          let p : value ds ≡ n = cc in
-          let q : suc end ≡ e = sym (add-one end) ∙ cc in
-          let ten : getD bs end 0 ≡ 10 = eqb-true (getD bs end 0) 10 h in
-          let rest : drop (length ds) (drop at bs) ≡ 10 ∷ drop e bs =
-          drop-drop (length ds) at bs ∙ drop-cons bs end 0 (inside bs end ten) ∙ rw (ten, q) in
-          (ds, split-digits (drop at bs) ∙ rw rest, rw p at (decimal t), omega (arith, p, leb-true (value ds) 4294967295 j))
-      go true h true j false t x = absurd (no-line x)
-      go true h false j d t x = absurd (no-line x)
-      go false h c j d t x = absurd (no-line x)
 
 -- ONE LINE
 
@@ -280,7 +268,7 @@ module _ (bs : List ℕ) (at : ℕ) (name : List ℕ) (n : ℕ) where
   unfolding lineAt
   line-then e = go (startsWith name (drop at bs)) refl
     where
-      go : (b : Bool) → startsWith name (drop at bs) ≡ b → cond b (numberAt bs (at + length name)) Wrong ≡ Read n e → StartsWithLine name n (drop at bs) (drop e bs)
+      go : (b : Bool) → startsWith name (drop at bs) ≡ b → cond b (numberAt bs (at + length name)) (Wrong Name) ≡ Read n e → StartsWithLine name n (drop at bs) (drop e bs)
       go true h x =
           let w = number-then bs (at + length name) n e x in
           record {
@@ -293,7 +281,7 @@ module _ (bs : List ℕ) (at : ℕ) (name : List ℕ) (n : ℕ) where
 
 -- THE THREE LINES
 
-no-session : {a b c : ℕ} → Bad ≡ Given a b c → ⊥
+no-session : {k : ℕ} {f : Fault} {a b c : ℕ} → Bad k f ≡ Given a b c → ⊥
 no-session x = let u : _≡_ {A = ℕ} 0 1 = cc in omega (arith, u)
 
 module _ (type source origin : ℕ) (bs : List ℕ) where
@@ -314,11 +302,11 @@ module _ (type source origin : ℕ) (bs : List ℕ) where
   session-then = go₁ (lineAt typeName bs 0) refl
     where
       go₃ : (t s i j : ℕ) → lineAt typeName bs 0 ≡ Read t i → lineAt sourceName bs i ≡ Read s j → (l : Line) → lineAt originName bs j ≡ l
-          → after l (λ o k. cond (eqb k (length bs)) (Given t s o) Bad) ≡ Given type source origin → SessionText type source origin bs
-      go₃ t s i j f g Wrong h x = absurd (no-session x)
+          → after 3 l (λ o k. cond (eqb k (length bs)) (Given t s o) (Bad 4 MoreText)) ≡ Given type source origin → SessionText type source origin bs
+      go₃ t s i j f g (Wrong z) h x = absurd (no-session x)
       go₃ t s i j f g (Read o k) h x = go (eqb k (length bs)) refl x
         where
-          go : (b : Bool) → eqb k (length bs) ≡ b → cond b (Given t s o) Bad ≡ Given type source origin → SessionText type source origin bs
+          go : (b : Bool) → eqb k (length bs) ≡ b → cond b (Given t s o) (Bad 4 MoreText) ≡ Given type source origin → SessionText type source origin bs
           go true e y =
               let p : t ≡ type = cc in
               let q : s ≡ source = cc in
@@ -334,13 +322,13 @@ module _ (type source origin : ℕ) (bs : List ℕ) where
           go false e y = absurd (no-session y)
 
       go₂ : (t i : ℕ) → lineAt typeName bs 0 ≡ Read t i → (l : Line) → lineAt sourceName bs i ≡ l
-          → after l (λ s j. after (lineAt originName bs j) (λ o k. cond (eqb k (length bs)) (Given t s o) Bad)) ≡ Given type source origin
+          → after 2 l (λ s j. after 3 (lineAt originName bs j) (λ o k. cond (eqb k (length bs)) (Given t s o) (Bad 4 MoreText))) ≡ Given type source origin
           → SessionText type source origin bs
-      go₂ t i f Wrong h x = absurd (no-session x)
+      go₂ t i f (Wrong z) h x = absurd (no-session x)
       go₂ t i f (Read s j) h x = go₃ t s i j f h (lineAt originName bs j) refl x
 
       go₁ : (l : Line) → lineAt typeName bs 0 ≡ l
-          → after l (λ t i. after (lineAt sourceName bs i) (λ s j. after (lineAt originName bs j) (λ o k. cond (eqb k (length bs)) (Given t s o) Bad))) ≡ Given type source origin
+          → after 1 l (λ t i. after 2 (lineAt sourceName bs i) (λ s j. after 3 (lineAt originName bs j) (λ o k. cond (eqb k (length bs)) (Given t s o) (Bad 4 MoreText)))) ≡ Given type source origin
           → SessionText type source origin bs
-      go₁ Wrong h x = absurd (no-session x)
+      go₁ (Wrong z) h x = absurd (no-session x)
       go₁ (Read t i) h x = go₂ t i h (lineAt sourceName bs i) refl x

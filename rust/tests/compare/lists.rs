@@ -48,11 +48,9 @@ pub fn list(
 /// 65,535 units.
 fn count_meetings(segments: &[Segment], counts: &mut [usize; 3]) {
     for this in segments.iter().filter(|this| !this.marked) {
-        if let Some(i) = paper::nearest(segments, this)
-            && !segments[i].ended
-            && segments[i].duration < 65_535
-        {
-            let end = segments[i].offset + u64::from(segments[i].duration);
+        let nearest = paper::nearest(segments, this).map(|i| segments[i]);
+        if let Some(nearest) = nearest.filter(|s| !s.ended && s.duration < 65_535) {
+            let end = nearest.offset + u64::from(nearest.duration);
             for (count, start) in counts.iter_mut().zip(end - 1..) {
                 *count += usize::from(this.offset == start);
             }

@@ -11,11 +11,8 @@ line-at-requires c κs = search session-text
 enum-known-first : tie.Need-enum-known-first
 enum-known-first c = search session-text
 
-enum-told : tie.Need-enum-told
-enum-told c = search session-text
-
-returns : tie.Need-returns
-returns c = search session-text
+enum-known-first-2 : tie.Need-enum-known-first-2
+enum-known-first-2 c = search session-text
 
 slice-aggregate-line-at-2 : tie.Need-slice-aggregate-line-at-2
 slice-aggregate-line-at-2 c = search session-text
@@ -26,11 +23,8 @@ line-at-requires-2 c κs = search session-text
 enum-known-middle : tie.Need-enum-known-middle
 enum-known-middle c = search session-text
 
-enum-told-2 : tie.Need-enum-told-2
-enum-told-2 c = search session-text
-
-returns-2 : tie.Need-returns-2
-returns-2 c = search session-text
+enum-known-middle-2 : tie.Need-enum-known-middle-2
+enum-known-middle-2 c = search session-text
 
 slice-aggregate-line-at-3 : tie.Need-slice-aggregate-line-at-3
 slice-aggregate-line-at-3 c = search session-text
@@ -41,8 +35,14 @@ line-at-requires-3 c κs = search session-text
 enum-known-last : tie.Need-enum-known-last
 enum-known-last c = search session-text
 
-enum-told-3 : tie.Need-enum-told-3
-enum-told-3 c = search session-text
+enum-known-last-2 : tie.Need-enum-known-last-2
+enum-known-last-2 c = search session-text
+
+returns : tie.Need-returns
+returns c = search session-text
+
+returns-2 : tie.Need-returns-2
+returns-2 c = search session-text
 
 returns-3 : tie.Need-returns-3
 returns-3 c = search session-text
@@ -60,17 +60,17 @@ session-of-spec =
     slice-aggregate-line-at
     line-at-requires
     enum-known-first
-    enum-told
-    returns
+    enum-known-first-2
     slice-aggregate-line-at-2
     line-at-requires-2
     enum-known-middle
-    enum-told-2
-    returns-2
+    enum-known-middle-2
     slice-aggregate-line-at-3
     line-at-requires-3
     enum-known-last
-    enum-told-3
+    enum-known-last-2
+    returns
+    returns-2
     returns-3
     returns-4
     returns-5)

@@ -28,11 +28,10 @@ impl Answers {
 /// a last frame or length cut short, or nothing.
 pub fn packets(capture: &[u8]) -> (Vec<&[u8]>, &[u8]) {
     let (mut packets, mut left) = (Vec::new(), capture);
-    while let Some((&length, rest)) = left.split_first_chunk()
-        && let Some((packet, rest)) = rest.split_at_checked(u16::from_be_bytes(length).into())
-    {
-        packets.push(packet);
-        left = rest;
+    while let Some((&length, rest)) = left.split_first_chunk() {
+        let Some(frame) = rest.split_at_checked(u16::from_be_bytes(length).into()) else { break };
+        packets.push(frame.0);
+        left = frame.1;
     }
     (packets, left)
 }

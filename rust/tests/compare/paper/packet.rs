@@ -22,11 +22,11 @@ pub fn header(packet: &[u8]) -> Result<Header<'_>, u8> {
         return Err(2);
     }
     let csrcs = usize::from(flags & 0b1111);
-    rest.split_off(..4 * csrcs).ok_or(3)?;
+    rest = rest.get(4 * csrcs..).ok_or(3)?;
     if flags & 0b1_0000 != 0 {
-        let extension = rest.split_off(..4).ok_or(3)?;
-        let words = u16::from_be_bytes([extension[2], extension[3]]);
-        rest.split_off(..4 * usize::from(words)).ok_or(3)?;
+        let (&[_, _, w0, w1], data) = rest.split_first_chunk().ok_or(3)?;
+        let words = u16::from_be_bytes([w0, w1]);
+        rest = data.get(4 * usize::from(words)..).ok_or(3)?;
     }
     if flags & 0b10_0000 != 0 {
         let pad_count = usize::from(packet[packet.len() - 1]);
@@ -49,7 +49,7 @@ pub fn header(packet: &[u8]) -> Result<Header<'_>, u8> {
 pub fn report(header: &Header) -> Result<Report, u8> {
     let &[code, flags, d0, d1] = header.payload else {
         let bytes = header.payload.len();
-        return Err(if bytes >= 8 && bytes.is_multiple_of(4) { 17 } else { 7 });
+        return Err(if bytes >= 8 && bytes % 4 == 0 { 17 } else { 7 });
     };
     if code > 15 {
         return Err(8);

@@ -1,14 +1,15 @@
--- There are at most 128 numbers to ask for.
-use Prim.Native.Nat.{_-_}
+use Prim.Native.Nat.{_*_, _-_, _≤_}
+use mathlib.Core.Path.{_≡_}
 use borrow.Author.Needs.{needs}
+use lib.ListN.{length}
 use Rattle.listing.proofs.print.events.Statement.{statement}
 use Rattle.listing.proofs.print.events.Tie as tie
 
 abbrev Inv-loop : tie.InvT-loop
-Inv-loop head keys heard k₀ k = Unit {0}
+Inv-loop b₀ head keys heard k₀ end₀ b k end = (length b ≡ length b₀) × (end ≤ 192 * k) × (k ≤ 128)
 
 abbrev μ-loop : tie.MeasureT-loop
-μ-loop head keys heard k₀ k = 128 - k
+μ-loop b₀ head keys heard k₀ end₀ b k end = 128 - k
 
 loop-holds : tie.Need-loop-holds Inv-loop μ-loop
 loop-holds c = search needs
@@ -25,6 +26,9 @@ enum-known-a c = search needs
 enum-told : tie.Need-enum-told Inv-loop μ-loop
 enum-told c = search needs
 
+same-length : tie.Need-same-length Inv-loop μ-loop
+same-length c = search needs
+
 returns : tie.Need-returns Inv-loop μ-loop
 returns c = search needs
 
@@ -40,6 +44,9 @@ loop-less c = search needs
 loop-again : tie.Need-loop-again Inv-loop μ-loop
 loop-again c = search needs
 
+same-length-2 : tie.Need-same-length-2 Inv-loop μ-loop
+same-length-2 c = search needs
+
 returns-2 : tie.Need-returns-2 Inv-loop μ-loop
 returns-2 c = search needs
 
@@ -54,9 +61,11 @@ events-spec =
     event-at-requires
     enum-known-a
     enum-told
+    same-length
     returns
     event-requires
     add-k
     loop-less
     loop-again
+    same-length-2
     returns-2)

@@ -1,0 +1,108 @@
+"""Streams, their sessions, SDP, and refusals in words."""
+import json
+import random
+import struct
+import unittest
+
+from capturing import commands, paper, sdp, streams
+from made import pcap
+from trying import DATA, EXPECTED, IPV4, TEMPORARY, events, run
+
+
+def datagram(payload):
+    return EXPECTED[0]._replace(payload=payload)
+
+
+def ipv4_packet(payload):
+    udp = struct.pack(">HHHH", 4000, 5000, len(payload) + 8, 0) + payload
+    return b"\x45\x00" + struct.pack(">H", len(udp) + 20) + IPV4[4:20] + udp
+
+
+class Streams(unittest.TestCase):
+    def datagrams(self, capture):
+        return [datagram(frame) for frame in paper.frames_of((DATA / f"{capture}.rtp").read_bytes())[0]]
+
+    def test_lowest_timestamp_in_any_order(self):
+        for capture in ("wrap", "shopkeeper", "baresip_long_8k"):
+            found, session = self.datagrams(capture), paper.session_of((DATA / f"{capture}.session").read_bytes())
+            for seed in range(5):
+                random.Random(seed).shuffle(found)
+                text = commands.session_for(streams.streams_of(found), session.ssrc)
+                lowest = session.origin + (96000 if capture == "shopkeeper" else 0)
+                self.assertEqual(paper.session_of(text.encode()), session._replace(origin=lowest))
+
+    def test_event_like(self):
+        report, header = b"\x05\x0a\x01\x90", b"\x65" + bytes(10)
+        for packet, expected in (
+            (b"\x80" + header + report, True),
+            (b"\x80" + header + report[:3], False),
+            (b"\x80" + header + report + report, False),
+            (b"\x80" + header + b"\x05\x4a\x01\x90", False),  # reserved bit
+            (b"\x82" + header + bytes(8) + report, True),
+            (b"\x82" + header + report, False),
+            (b"\x90" + header + b"\xbe\xde\x00\x01" + bytes(4) + report, True),
+            (b"\x90" + header + report, False),
+            (b"\xa0" + header + report + b"\x00\x02", True),
+            (b"\xa0" + header + report[:3] + b"\x00", False),
+            (b"\xa0" + header + report + b"\x00\x00\x00\x18", False),  # 24 bytes of padding where there are 8
+        ):
+            self.assertEqual(streams.is_event_like(packet), expected, packet.hex())
+
+    def test_what_is_a_stream_of_events(self):
+        packet = paper.frames_of((DATA / "shopkeeper.rtp").read_bytes())[0][0]
+
+        def of_type(payload_type):
+            return datagram(packet[:1] + bytes([payload_type]) + packet[2:])
+
+        def chosen(*found):
+            return [stream.name.payload_type for stream in streams.streams_of(found) if stream.is_of_events]
+
+        self.assertEqual(chosen(of_type(34), of_type(35), of_type(127), of_type(200)), [35, 127])  # 200 is RTCP
+        other = datagram(packet[:1] + b"\x65" + packet[2:] + bytes(100))
+        self.assertEqual((chosen(of_type(101), other), chosen(of_type(101), other, of_type(101))), ([], [101]))
+
+    def test_one_session_for_an_ssrc(self):
+        found = self.datagrams("wrap")
+        one = found[0].payload
+        early = datagram(b"\xa0" + one[1:4] + struct.pack(">I", 2**32 - 300000) + one[8:12] + b"\x01")  # padding alone
+        text = commands.session_for(streams.streams_of([early] + found), 0x57524150)
+        self.assertEqual(text, (DATA / "wrap.session").read_text())
+        other = [one._replace(source=b"\1\2\3\4\5\6") for one in found[10:]]
+        text = commands.session_for(streams.streams_of(other + found), 0x57524150)
+        self.assertEqual(text, (DATA / "wrap.session").read_text())
+        other = [datagram(one.payload[:1] + b"\x65" + one.payload[2:]) for one in found]
+        self.assertRaisesRegex(ValueError, r"\[96, 101\]", commands.session_for, streams.streams_of(other + found), 0x57524150)
+
+    def test_sdp(self):
+        for text, expected in (
+            (b"m=audio 1 RTP/AVP 0 101\na=rtpmap:101 telephone-event/8000\n", {101: {8000}}),
+            (b"a=rtpmap:101 Telephone-Event/8000\r\na=fmtp:101 0-15\r\n", {101: {8000}}),
+            (b"a=rtpmap:101 telephone-event/8000/1\na=rtpmap:110 telephone-event/48000", {101: {8000}, 110: {48000}}),
+            (b"a=rtpmap:101 telephone-event/8000\nm=audio\na=rtpmap:101 telephone-event/16000\n", {101: {8000, 16000}}),
+            (b"a=rtpmap:101 telephone-event/8000\nm=audio\na=rtpmap:101 telephone-event/8000\n", {101: {8000}}),
+            (b"a=rtpmap:0 PCMU/8000\nb=a=rtpmap:101 telephone-event/8000\n", {}),
+            (b"a=rtpmap:128 telephone-event/8000\na=rtpmap:101 telephone-event/0\na=rtpmap:102 telephone-event/\n", {}),
+            (b"", {}),
+            (bytes(range(256)), {}),
+        ):
+            self.assertEqual(sdp.clock_rates(text), expected)
+
+    def test_refusals_in_words(self):
+        many = self.datagrams("many")
+        packed = [datagram(one.payload + one.payload[12:]) for one in self.datagrams("wrap")]
+        path, description = TEMPORARY / "refused.pcap", TEMPORARY / "refused.sdp"
+        path.write_bytes(pcap([ipv4_packet(one.payload) for one in many + packed], 101))
+        description.write_text("a=rtpmap:96 telephone-event/8000\na=rtpmap:127 telephone-event/8000\n")
+        status, out, err = run(*events(path, "--sdp", description, "--rate", "1000"))
+        text = out.decode()
+        self.assertIn("128 events from 384 reports; 36 packets refused:\n    36  with 11: more than 128 segments: later keys", text)
+        self.assertIn("no events from no reports; 41 packets refused:\n    41  with 17: several reports packed", text)
+        self.assertEqual((status, err, text.count("1000 units a second")), (0, "", 2))
+        description.write_text("a=rtpmap:96 telephone-event/8000\n")
+        status, out, err = run(*events(path, "--sdp", description))
+        self.assertEqual((status, out.decode().count("SSRC")), (0, 1))
+        self.assertRegex(err, r"the SDP does not name them: \[127\]")
+        path.write_bytes(pcap([ipv4_packet(one.payload) for one in packed], 101))
+        status, out, err = run(*events(path, "--json"))
+        self.assertEqual((status, json.loads(out)["streams"]), (1, []))
+        self.assertRegex(err, "(?s)no stream of telephone events.*give its SDP.*UDP packets in it: 41; RTP streams: 1.*1465008464")

@@ -1,0 +1,1 @@
+"""What tools/captures is made of: a file for each concept."""
