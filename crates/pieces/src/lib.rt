@@ -169,6 +169,6 @@ pub fn received(head: Head, keys: &mut [u64; 128], heard: &mut [u32; 128], file:
     }
     Heard {
         so_far: so_far,
-        failed: false,
+        failed: true,
     }
 }

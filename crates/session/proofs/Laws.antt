@@ -214,7 +214,11 @@ module _ (bs : List ℕ) (at n e : ℕ) where
 
       go : (a : Bool) → leb (value digits) 4294967295 ≡ a → (b : Bool) → ltb end (length bs) ≡ b → (c : Bool) → eqb (getD bs end 0) 10 ≡ c
           → (d : Bool) → eqb (length digits) 0 ≡ d → (f : Bool) → noZeroAhead (getD bs at 0) (length digits) ≡ f
-          → cond (not a) (Wrong TooLarge) (cond (not b) (Wrong NoNewline) (cond c (cond d (Wrong NoNumber) (cond f (Read (value digits) (end + 1)) (Wrong LeadingZero))) (Wrong NoDigit))) ≡ Read n e
+          → cond (not a) (Wrong TooLarge)
+          (cond (not b) (Wrong NoNewline)
+          (cond c (cond d (Wrong NoNumber) (cond f (Read (value digits) (end + 1)) (Wrong LeadingZero)))
+          (Wrong NoDigit)))
+          ≡ Read n e
           → Passed bs at n e
       go true small true there true ended false some true leads x =
           record {
