@@ -1,17 +1,19 @@
-/* Twimbor: RTP packets that carry one telephone-event report (RFC 4733).
+/* Twimbor: RTP packets that carry one telephone-event report (RFC 4733), or a redundant packet's blocks of them (RFC 2198).
  *
  * Every function checks its own input and answers a refusal's number, 0 if nothing is refused. Under a refusal nothing lent
- * changes, but for the table of twimbor_open, and the values answered are zeros, but for the count of twimbor_received and of
- * twimbor_captured, and the probes under 11. Link with the archive that `rt staticlib twimbor` writes.
+ * changes, but for the table of twimbor_open and of twimbor_open_redundant, and the values answered are zeros, but for the count of
+ * twimbor_received, twimbor_captured and twimbor_blocks_received, and the probes under 11. Link with the archive that
+ * `rt staticlib twimbor` writes.
  *
- * A pointer with a number of `bytes` or `records` stands for that many, a pointer to a table or a column for all of it. What it
+ * A pointer with a number of `bytes`, `records` or `room` stands for that many, a pointer to a table or a column for all of it. What it
  * points to may not be written by anything else during the call, and what the call writes may not overlap anything else that is
- * lent to it. No pointer may be null, not even with 0 bytes or records.
+ * lent to it. No pointer may be null, not even with 0 of them.
  *
  * The calls keep nothing and share nothing, so different tables may be used in different threads at the same time.
  *
  * A `bool` must be 0 or 1. A byte of a file may be neither, and as a bool that is undefined behaviour: read a stored bool back as
- * `byte != 0`. Reports, segments and events have bools; a table has none.
+ * `byte != 0`. Reports, older ones, segments and events have bools; a table and a cursor have none, so that whatever bytes are read back
+ * as one are answered.
  *
  * A `length`, `duration`, `period` or `segment_size` is always in timestamp units. */
 #ifndef TWIMBOR_H
@@ -22,7 +24,7 @@
 #include <stdint.h>
 
 #define TWIMBOR_VERSION_MAJOR 0
-#define TWIMBOR_VERSION_MINOR 8
+#define TWIMBOR_VERSION_MINOR 9
 #define TWIMBOR_VERSION_PATCH 0
 #define TWIMBOR_VERSION \
     TWIMBOR_DIGITS(TWIMBOR_VERSION_MAJOR) "." TWIMBOR_DIGITS(TWIMBOR_VERSION_MINOR) "." TWIMBOR_DIGITS(TWIMBOR_VERSION_PATCH)
@@ -32,6 +34,8 @@
 #define TWIMBOR_PLACES 128              /* the segments that a table holds at most, and so the events that it can list */
 #define TWIMBOR_LONGEST_EVENT 1048560   /* timestamp units that a plan can have: 16 segments of 65535 */
 #define TWIMBOR_PACKET_BYTES 16         /* what is written of a report */
+#define TWIMBOR_OLDER_REPORTS 2         /* the older reports that a redundant packet is written with at most */
+#define TWIMBOR_REDUNDANT_BYTES 33      /* what is written of a report and two older ones; 8 less for each that is not there */
 
 /* On every function whose answer says whether it was refused, or is a truth: gcc and clang warn if it is thrown away. */
 #ifdef __GNUC__
@@ -49,7 +53,7 @@ enum {
     TWIMBOR_WRONG_VERSION = 2,      /* version not 2 */
     TWIMBOR_HEADER_PAST_END = 3,    /* CSRC list or extension runs past the end */
     TWIMBOR_BAD_PADDING = 4,        /* pad count 0 or above the bytes after the header */
-    TWIMBOR_OTHER_PAYLOAD_TYPE = 5, /* not the table's payload type */
+    TWIMBOR_OTHER_PAYLOAD_TYPE = 5, /* not the table's payload type, or neither of its two */
     TWIMBOR_OTHER_SSRC = 6,         /* not the table's SSRC */
     TWIMBOR_NOT_ONE_REPORT = 7,     /* payload not 4 bytes, and not packed */
     TWIMBOR_CODE_TOO_HIGH = 8,      /* code above 15 */
@@ -58,10 +62,12 @@ enum {
     TWIMBOR_TABLE_FULL = 11,        /* 128 segments held, and this pair is none of them */
     TWIMBOR_OUT_OF_RANGE = 12,      /* a number outside its range */
     TWIMBOR_NO_SUCH_NUMBER = 13,    /* report or event number 0 or above the count */
-    TWIMBOR_OUTPUT_TOO_SMALL = 14,  /* output has fewer than 16 bytes */
-    TWIMBOR_LIST_TOO_SMALL = 15,    /* lent list has fewer records than there are events */
+    TWIMBOR_OUTPUT_TOO_SMALL = 14,  /* output has fewer bytes than the packet */
+    TWIMBOR_LIST_TOO_SMALL = 15,    /* lent list has fewer records than there are events, or entries than blocks of the event's type */
     TWIMBOR_INVALID_TABLE = 16,     /* table fails a test */
-    TWIMBOR_PACKED = 17             /* payload of 8, 12 or more bytes in whole fours: several reports */
+    TWIMBOR_PACKED = 17,            /* payload of 8, 12 or more bytes in whole fours: several reports */
+    TWIMBOR_HEADERS_RUN_OUT = 18,   /* a redundant packet's block headers run past the payload's end */
+    TWIMBOR_BLOCKS_TOO_LONG = 19    /* its block lengths come to more than its data */
 };
 
 /* A refusal in words, for people to read. Every number has some, 0 and those of no refusal too. */
@@ -82,10 +88,12 @@ static inline const char *twimbor_refusal_text(uint64_t number)
     case TWIMBOR_TABLE_FULL: return "the table holds 128 segments, and the report's is none of them";
     case TWIMBOR_OUT_OF_RANGE: return "a number given is outside its range";
     case TWIMBOR_NO_SUCH_NUMBER: return "the report or event number is 0 or above the count";
-    case TWIMBOR_OUTPUT_TOO_SMALL: return "the output has fewer than 16 bytes";
-    case TWIMBOR_LIST_TOO_SMALL: return "the lent list has fewer records than there are events";
+    case TWIMBOR_OUTPUT_TOO_SMALL: return "the output has fewer bytes than the packet";
+    case TWIMBOR_LIST_TOO_SMALL: return "the lent list has fewer records than there are events, or entries than blocks";
     case TWIMBOR_INVALID_TABLE: return "the table has more than 128 segments, segments out of order, or a number outside its range";
     case TWIMBOR_PACKED: return "the packet's payload is several reports packed together";
+    case TWIMBOR_HEADERS_RUN_OUT: return "the redundant packet's block headers run past its end";
+    case TWIMBOR_BLOCKS_TOO_LONG: return "the redundant packet's block lengths come to more than its data";
     default: return "a refusal that this version does not know";
     }
 }
@@ -109,6 +117,15 @@ typedef struct {
     uint32_t duration;              /* 1 to 65535 timestamp units */
 } twimbor_report;
 
+/* An older report that a redundant packet repeats. A block has no marker, sequence number or SSRC of its own. */
+typedef struct {
+    uint32_t timestamp;             /* at most 16383 before the report's, modulo 2^32 */
+    uint32_t code;                  /* 0 to 15 */
+    bool ended;
+    uint32_t volume;                /* 0 to 63 */
+    uint32_t duration;              /* 1 to 65535 timestamp units */
+} twimbor_older_report;
+
 /* What a sender plans for one event. */
 typedef struct {
     uint32_t payload_type;          /* 0 to 127 */
@@ -119,7 +136,7 @@ typedef struct {
     uint32_t volume;                /* 0 to 63 */
     uint32_t length;                /* 1 timestamp unit to 16 segment sizes */
     uint32_t period;                /* 1 to 65535 timestamp units between reports */
-    uint32_t segment_size;          /* 1 to 65535 timestamp units; below 65535 for redundant packets (RFC 4733, 2.5.1.3.1) */
+    uint32_t segment_size;          /* 1 to 65535 timestamp units; at most 16383 for redundant packets (RFC 4733, 2.5.1.3.1) */
 } twimbor_plan;
 
 typedef struct {
@@ -147,6 +164,90 @@ TWIMBOR_MUST_CHECK twimbor_read_result twimbor_read(const uint8_t *packet, size_
  * duration 0 or above 65535; 14 if the output has fewer than 16 bytes. All of the output then stays. */
 TWIMBOR_MUST_CHECK uint8_t twimbor_write(twimbor_report report, uint8_t *output, size_t bytes);
 
+/* Writes a redundant packet (RFC 2198) at the start of the output: `count` older reports, 0, 1 or 2 of them, stand before the report in
+ * the order given, which is `first`, then `second`; what the count does not count is ignored. Its payload type is `redundant_type`, all
+ * blocks are of the report's payload type, and the marker is the report's. It has 17, 25 or 33 bytes; the bytes after them stay.
+ *
+ * Answers 0, or refuses, in this order: 12 if a number of the report is out of its range, as for twimbor_write, or one of an older
+ * report that counts; if the redundant type is above 127 or equal to the report's; if the count is above 2; or if an older report's
+ * timestamp is more than 16383 before the report's, modulo 2^32; 14 if the output has fewer bytes than the packet. All of the output
+ * then stays. */
+TWIMBOR_MUST_CHECK uint8_t twimbor_write_redundant(twimbor_report report, uint32_t redundant_type, uint32_t count,
+                                                   twimbor_older_report first, twimbor_older_report second,
+                                                   uint8_t *output, size_t bytes);
+
+/* Where a walk over the blocks of a redundant packet stands. Whoever holds it may copy it, to go on from there again. */
+typedef struct {
+    size_t header;                  /* the place of the next block's header */
+    size_t body;                    /* the place of its data */
+    size_t end;                     /* where the payload ends */
+} twimbor_cursor;
+
+typedef struct {
+    twimbor_cursor cursor;
+    uint8_t refusal;
+} twimbor_walk_started;
+
+typedef struct {
+    twimbor_cursor after;           /* where to go on: behind the last block all three at the payload's end; as it was if there is none */
+    size_t start;                   /* the block's data are the packet's bytes from here */
+    size_t end;                     /* up to here */
+    uint16_t offset;                /* how much earlier than the packet's timestamp its own is; 0 for the primary */
+    uint8_t payload_type;           /* 0 to 127 */
+    bool primary;                   /* it is the last block, the only one that can count as marked */
+    bool found;                     /* false if there are no more blocks; all others but `after` are then zeros */
+} twimbor_block_step_result;
+
+/* The archive's two calls of the walker. The functions after them do the same with a twimbor_walker, and say what each does. A cursor of
+ * any numbers is answered: where they are no walk's, by no block or by some part of the packet. */
+TWIMBOR_MUST_CHECK twimbor_walk_started twimbor_walk_start(const uint8_t *packet, size_t bytes);
+TWIMBOR_MUST_CHECK twimbor_block_step_result twimbor_block_step(const uint8_t *packet, size_t bytes, twimbor_cursor cursor);
+
+/* A walker over the blocks of a packet, which it does not copy: the packet must stay as it is while it is walked. */
+typedef struct {
+    const uint8_t *packet;
+    size_t bytes;
+    twimbor_cursor cursor;
+} twimbor_walker;
+
+/* A block: a part of the packet, with its payload type and its offset. */
+typedef struct {
+    const uint8_t *data;
+    size_t bytes;
+    uint8_t payload_type;           /* 0 to 127 */
+    uint16_t offset;                /* its timestamp is (the packet's - offset) modulo 2^32 */
+    bool primary;                   /* the last block: its offset is 0 */
+} twimbor_block;
+
+/* Starts a walk over the blocks of a redundant packet (RFC 2198). Its payload type is not looked at: that it is redundant is for the
+ * caller to know.
+ *
+ * Answers 0, or refuses, in this order: 1 to 4 as twimbor_read; 18 if the block headers run past the payload's end; 19 if the block
+ * lengths come to more than the data. The walker then has no block. */
+TWIMBOR_MUST_CHECK static inline uint8_t twimbor_walk(twimbor_walker *walker, const uint8_t *packet, size_t bytes)
+{
+    twimbor_walk_started started = twimbor_walk_start(packet, bytes);
+    walker->packet = packet;
+    walker->bytes = bytes;
+    walker->cursor = started.cursor;
+    return started.refusal;
+}
+
+/* Hands out the next block, in packet order, and answers true; or answers false if there are no more, and the block stays as it is. */
+TWIMBOR_MUST_CHECK static inline bool twimbor_next_block(twimbor_walker *walker, twimbor_block *block)
+{
+    twimbor_block_step_result step = twimbor_block_step(walker->packet, walker->bytes, walker->cursor);
+    if (!step.found)
+        return false;
+    walker->cursor = step.after;
+    block->data = walker->packet + step.start;
+    block->bytes = step.end - step.start;
+    block->payload_type = step.payload_type;
+    block->offset = step.offset;
+    block->primary = step.primary;
+    return true;
+}
+
 /* How many reports a plan has. An event is cut into segments of the segment size, the last holding the rest; a segment of L units
  * is reported at each multiple of the period below L, and at L three times.
  *
@@ -163,7 +264,9 @@ TWIMBOR_MUST_CHECK uint8_t twimbor_write_report(twimbor_plan plan, uint32_t k, u
 
 /* What a table was opened with, and how many segments it holds. */
 typedef struct {
-    uint8_t payload_type;           /* 0 to 127 */
+    uint8_t payload_type;           /* the event's, 0 to 127 */
+    uint8_t both_types;             /* 0 if opened for one payload type; else, as 1, for redundant packets too */
+    uint8_t redundant_type;         /* then their payload type, 0 to 127 and another than the event's; else nothing looks at it */
     uint32_t ssrc;
     uint32_t origin;                /* the timestamp that offsets are counted from */
     size_t count;                   /* at most TWIMBOR_PLACES */
@@ -211,6 +314,12 @@ typedef struct {
     size_t packed;                  /* those of them that were refused with 17 */
 } twimbor_captured;
 
+typedef struct {
+    size_t blocks;                  /* the entries written, one for each block of the event's type; 0 if refused whole */
+    size_t count;                   /* the segments held after the call; if refused whole, as many as before */
+    uint8_t refusal;                /* 0, or the number with which the packet is refused whole */
+} twimbor_blocks_received;
+
 /* One event of the list. */
 typedef struct {
     uint8_t code;                   /* the key */
@@ -239,11 +348,16 @@ typedef struct {
 /* The archive's calls take the head by value and the columns as pointers to TWIMBOR_PLACES numbers each, wherever these are
  * kept. The functions after them do the same with a twimbor_table, and say what each call does. */
 TWIMBOR_MUST_CHECK twimbor_opened twimbor_open_table(uint32_t payload_type, uint32_t ssrc, uint32_t origin);
+TWIMBOR_MUST_CHECK twimbor_opened twimbor_open_redundant_table(uint32_t payload_type, uint32_t redundant_type, uint32_t ssrc,
+                                                               uint32_t origin);
 TWIMBOR_MUST_CHECK bool twimbor_is_valid_columns(twimbor_head head, const uint64_t *keys, const uint32_t *heard);
 TWIMBOR_MUST_CHECK twimbor_received twimbor_receive_columns(twimbor_head head, uint64_t *keys, uint32_t *heard,
                                                             const uint8_t *packet, size_t bytes);
 TWIMBOR_MUST_CHECK twimbor_captured twimbor_receive_capture_columns(twimbor_head head, uint64_t *keys, uint32_t *heard,
                                                                     const uint8_t *frames, size_t bytes);
+TWIMBOR_MUST_CHECK twimbor_blocks_received twimbor_receive_redundant_columns(twimbor_head head, uint64_t *keys, uint32_t *heard,
+                                                                             const uint8_t *packet, size_t bytes,
+                                                                             uint32_t *entries, size_t room);
 TWIMBOR_MUST_CHECK twimbor_event_result twimbor_event_at_columns(twimbor_head head, const uint64_t *keys, const uint32_t *heard,
                                                                  uint32_t k);
 TWIMBOR_MUST_CHECK twimbor_listed twimbor_list_columns(twimbor_head head, const uint64_t *keys, const uint32_t *heard,
@@ -260,9 +374,21 @@ TWIMBOR_MUST_CHECK static inline uint8_t twimbor_open(twimbor_table *table, uint
     return opened.refusal;
 }
 
+/* Opens an empty table for the packets of one SSRC that are of the event's payload type or redundant, with zeros in all places.
+ *
+ * Answers 0, or refuses: 12 if one of the payload types is above 127 or they are equal, and the table is then all zeros, as one that was
+ * opened for one payload type. */
+TWIMBOR_MUST_CHECK static inline uint8_t twimbor_open_redundant(twimbor_table *table, uint32_t payload_type, uint32_t redundant_type,
+                                                                uint32_t ssrc, uint32_t origin)
+{
+    twimbor_opened opened = twimbor_open_redundant_table(payload_type, redundant_type, ssrc, origin);
+    *table = opened.table;
+    return opened.refusal;
+}
+
 /* Whether a table passes the tests of refusal 16: at most 128 segments held; these strictly rising by offset, then code; offsets
- * below 2^31; codes 0 to 15; durations 1 to 65535; volumes 0 to 63; a payload type up to 127. A table that was opened always
- * does, whatever it received. */
+ * below 2^31; codes 0 to 15; durations 1 to 65535; volumes 0 to 63; a payload type up to 127; and in a table opened for both types
+ * the other one up to 127 too, and another. A table that was opened always does, whatever it received. */
 TWIMBOR_MUST_CHECK static inline bool twimbor_is_valid(const twimbor_table *table)
 {
     return twimbor_is_valid_columns(table->head, table->keys, table->heard);
@@ -285,6 +411,46 @@ TWIMBOR_MUST_CHECK static inline twimbor_received twimbor_receive(twimbor_table 
     twimbor_received received = twimbor_receive_columns(table->head, table->keys, table->heard, packet, bytes);
     table->head.count = received.count;
     return received;
+}
+
+/* Receives a packet that may be redundant (RFC 2198), into a table of either opening. Each of its blocks of the event's type, in packet
+ * order, is received at its own timestamp, (the packet's - its offset) modulo 2^32, on the table that the block before it left; a packet
+ * of the event's type itself is one block. Only the last block, the primary, can count as marked. Blocks of other types are passed over.
+ *
+ * What is answered to a block stands in its entry: entries 0 to `blocks` - 1 are written, the others stay. twimbor_entry_refusal,
+ * twimbor_entry_is_new and twimbor_entry_probes read it. A block is taken, or refused with 17, 7, 8, 9, 10 or 11 as by twimbor_receive;
+ * that changes its entry only, and the blocks after it are received all the same.
+ *
+ * The packet is refused whole, in this order: 16 if the table fails its tests; 1 to 4 as by twimbor_read; 5 if its payload type is
+ * neither the event's nor, in a table opened for both, that of redundant packets; 6 if it is another SSRC; 18 if its block headers run
+ * past the payload's end; 19 if its block lengths come to more than its data; 15 if there are fewer entries than blocks of the event's
+ * type. Table and entries are then as they were. A packet has fewer blocks than a quarter of its bytes: for packets of up to 1500 bytes
+ * TWIMBOR_ENTRIES_OF_1500 entries are always enough. */
+#define TWIMBOR_ENTRIES_OF_1500 372
+TWIMBOR_MUST_CHECK static inline twimbor_blocks_received twimbor_receive_redundant(twimbor_table *table, const uint8_t *packet,
+                                                                                   size_t bytes, uint32_t *entries, size_t room)
+{
+    twimbor_blocks_received received =
+        twimbor_receive_redundant_columns(table->head, table->keys, table->heard, packet, bytes, entries, room);
+    table->head.count = received.count;
+    return received;
+}
+
+/* What an entry says of its block: the refusal's number, 0 if it was taken; whether its segment is new; and how many segments were
+ * looked at to find it. The number itself is refusal + 256 if new + 65536 * probes. */
+static inline uint8_t twimbor_entry_refusal(uint32_t entry)
+{
+    return entry & 0xff;
+}
+
+static inline bool twimbor_entry_is_new(uint32_t entry)
+{
+    return entry >> 8 & 1;
+}
+
+static inline uint32_t twimbor_entry_probes(uint32_t entry)
+{
+    return entry >> 16;
 }
 
 /* Receives a whole capture: a buffer of RFC 4571 frames, each a packet's length in two bytes, the high one first, then the packet.

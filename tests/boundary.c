@@ -36,7 +36,8 @@ static bool same_event(twimbor_event a, twimbor_event b)
 
 static bool same_table(const twimbor_table *a, const twimbor_table *b)
 {
-    return a->head.payload_type == b->head.payload_type && a->head.ssrc == b->head.ssrc && a->head.origin == b->head.origin
+    return a->head.payload_type == b->head.payload_type && a->head.both_types == b->head.both_types
+        && a->head.redundant_type == b->head.redundant_type && a->head.ssrc == b->head.ssrc && a->head.origin == b->head.origin
         && a->head.count == b->head.count && memcmp(a->keys, b->keys, sizeof a->keys) == 0
         && memcmp(a->heard, b->heard, sizeof a->heard) == 0;
 }
@@ -58,20 +59,26 @@ static const uint8_t REPORTS[3][16] = {
 static const twimbor_head HEAD = {.payload_type = 101, .ssrc = 0x11223344, .origin = 0xFFFFFFF0, .count = 0};
 static const twimbor_segment HEARD = {.offset = 0, .code = 5, .duration = 400, .volume = 10, .ended = true, .marked = true};
 
-static uint8_t output[20];
+static uint8_t output[40];
 
 static void fresh(void)
 {
     memset(output, 0xAB, sizeof output);
 }
 
-/* Whether the output is these 16 bytes, if any, and then as `fresh` left it. */
-static bool has(const uint8_t *packet)
+/* Whether the output is so many bytes of a packet, and then as `fresh` left it. */
+static bool has_bytes(const uint8_t *packet, size_t bytes)
 {
     uint8_t want[sizeof output];
     memset(want, 0xAB, sizeof want);
-    if (packet) memcpy(want, packet, 16);
+    memcpy(want, packet, bytes);
     return memcmp(output, want, sizeof want) == 0;
+}
+
+/* The same for the 16 bytes of a report's packet, if any. */
+static bool has(const uint8_t *packet)
+{
+    return packet ? has_bytes(packet, 16) : has_bytes(output, 0);
 }
 
 /* A packet that begins as the first report, of so many bytes: one report fewer or more than one, up to the longest in a frame of
@@ -168,6 +175,32 @@ static void opening(void)
     EXPECT(twimbor_open(&table, 101, HEAD.ssrc, HEAD.origin) == 0 && same_table(&table, &empty) && twimbor_is_valid(&table));
     memset(&table, 0xAB, sizeof table);
     EXPECT(twimbor_open(&table, 256 + 101, HEAD.ssrc, HEAD.origin) == TWIMBOR_OUT_OF_RANGE && same_table(&table, &zeros));
+}
+
+/* The second opening: the types on both sides of each edge, and equal. In 8 bits the last ones look like 101 and 100. */
+static const struct {
+    uint32_t payload_type, redundant_type;
+    bool refused;
+} types[] = {
+    {101, 100, false}, {0, 127, false}, {127, 0, false}, {128, 100, true}, {101, 128, true}, {101, 101, true}, {0, 0, true},
+    {UINT32_MAX, 100, true}, {101, UINT32_MAX, true}, {256 + 101, 100, true}, {101, 256 + 100, true},
+};
+
+static void opening_for_both(void)
+{
+    static twimbor_table zeros;
+    for (size_t i = 0; i < sizeof types / sizeof *types; i++) {
+        twimbor_table table, want = zeros;
+        if (!types[i].refused) {
+            want.head = HEAD;
+            want.head.payload_type = (uint8_t)types[i].payload_type;
+            want.head.both_types = 1;
+            want.head.redundant_type = (uint8_t)types[i].redundant_type;
+        }
+        memset(&table, 0xAB, sizeof table);
+        uint8_t refusal = twimbor_open_redundant(&table, types[i].payload_type, types[i].redundant_type, HEAD.ssrc, HEAD.origin);
+        EXPECT(refusal == (types[i].refused ? TWIMBOR_OUT_OF_RANGE : 0) && same_table(&table, &want) && twimbor_is_valid(&table));
+    }
 }
 
 /* An opened table with something in every place, and in the memory before and after it. */
@@ -378,11 +411,446 @@ static void failing(void)
             EXPECT(c.refusal == TWIMBOR_INVALID_TABLE && c.count == counts[i] && c.used == 0);
             EXPECT(c.taken == 0 && c.refused == 0 && c.packed == 0 && same_table(table, &before));
         }
+        uint32_t entry = 0xABABABAB;
+        twimbor_blocks_received b = twimbor_receive_redundant(table, REPORTS[0], 16, &entry, 1);
+        EXPECT(b.refusal == TWIMBOR_INVALID_TABLE && b.blocks == 0 && b.count == counts[i] && entry == 0xABABABAB);
         twimbor_event_result e = twimbor_event_at(table, 1);
         EXPECT(e.refusal == TWIMBOR_INVALID_TABLE && same_event(e.event, none));
         twimbor_listed l = twimbor_list(table, list, 1);
         EXPECT(l.refusal == TWIMBOR_INVALID_TABLE && l.events == 0 && memcmp(list, old, sizeof list) == 0);
         EXPECT(same_table(table, &before) && around_stays());
+    }
+}
+
+/* A report, two older ones, and the redundant packet of payload type 100 with all three. */
+static const twimbor_report REPORT = {
+    .marker = true, .payload_type = 101, .sequence = 7, .timestamp = 0x3D8, .ssrc = 0x11223344, .code = 7, .ended = false, .volume = 20,
+    .duration = 100,
+};
+static const twimbor_older_report OLDEST = {.timestamp = 0xFFFFFFF0, .code = 5, .ended = true, .volume = 10, .duration = 400};
+static const twimbor_older_report OLDER = {.timestamp = 0x248, .code = 6, .ended = false, .volume = 10, .duration = 200};
+static const uint8_t REDUNDANT[33] = {
+    0x80, 0xE4, 0x00, 0x07, 0x00, 0x00, 0x03, 0xD8, 0x11, 0x22, 0x33, 0x44,
+    0xE5, 0x0F, 0xA0, 0x04, 0xE5, 0x06, 0x40, 0x04, 0x65,
+    0x05, 0x8A, 0x01, 0x90, 0x06, 0x0A, 0x00, 0xC8, 0x07, 0x14, 0x00, 0x64,
+};
+/* What it says to a table. */
+static const twimbor_segment BLOCKS[3] = {
+    {.offset = 0, .code = 5, .duration = 400, .volume = 10, .ended = true, .marked = false},
+    {.offset = 600, .code = 6, .duration = 200, .volume = 10, .ended = false, .marked = false},
+    {.offset = 1000, .code = 7, .duration = 100, .volume = 20, .ended = false, .marked = true},
+};
+
+static uint8_t write_redundant(uint32_t count, size_t room)
+{
+    fresh();
+    return twimbor_write_redundant(REPORT, 100, count, OLDEST, OLDER, output, room);
+}
+
+/* Room on both sides of each edge, and older reports that do not count but are out of range. */
+static void writing_redundant(void)
+{
+    for (uint32_t count = 0; count <= 2; count++) {
+        size_t bytes = 17 + 8 * count, headers = 4 * count;
+        uint8_t want[33];
+        memcpy(want, REDUNDANT, 12 + headers);
+        want[12 + headers] = 0x65;
+        memcpy(want + 13 + headers, REDUNDANT + 21, headers);
+        memcpy(want + 13 + 2 * headers, REDUNDANT + 29, 4);
+        EXPECT(write_redundant(count, bytes) == 0 && has_bytes(want, bytes));
+        EXPECT(write_redundant(count, bytes + 1) == 0 && has_bytes(want, bytes));
+        EXPECT(write_redundant(count, bytes - 1) == TWIMBOR_OUTPUT_TOO_SMALL && has(NULL));
+        EXPECT(write_redundant(count, 0) == TWIMBOR_OUTPUT_TOO_SMALL && has(NULL));
+
+        static const twimbor_older_report out = {.timestamp = 0x3D9, .code = 16, .volume = 64, .duration = 0};
+        fresh();
+        EXPECT(twimbor_write_redundant(REPORT, 100, count, count > 0 ? OLDEST : out, count > 1 ? OLDER : out, output, bytes) == 0);
+        EXPECT(has_bytes(want, bytes));
+    }
+    EXPECT(write_redundant(3, sizeof output) == TWIMBOR_OUT_OF_RANGE && has(NULL));
+    EXPECT(write_redundant(0x10001, sizeof output) == TWIMBOR_OUT_OF_RANGE && has(NULL));
+    EXPECT(write_redundant(UINT32_MAX, 0) == TWIMBOR_OUT_OF_RANGE && has(NULL));
+}
+
+/* One number out of its range each, in the first or the second older report, and with no room too. */
+static void out_of_range(void)
+{
+    static const twimbor_older_report older[] = {
+        {.timestamp = 0x3D8 - 16384u, .code = 5, .volume = 10, .duration = 400},
+        {.timestamp = 0x3D9, .code = 5, .volume = 10, .duration = 400},
+        {.timestamp = 0x3D8, .code = 16, .volume = 10, .duration = 400},
+        {.timestamp = 0x3D8, .code = 5, .volume = 64, .duration = 400},
+        {.timestamp = 0x3D8, .code = 5, .volume = 10, .duration = 0},
+        {.timestamp = 0x3D8, .code = 5, .volume = 10, .duration = 65536},
+    };
+    fresh();
+    for (size_t i = 0; i < sizeof older / sizeof *older; i++)
+        for (size_t room = 0; room <= sizeof output; room += sizeof output) {
+            EXPECT(twimbor_write_redundant(REPORT, 100, 1, older[i], OLDER, output, room) == TWIMBOR_OUT_OF_RANGE && has(NULL));
+            EXPECT(twimbor_write_redundant(REPORT, 100, 2, older[i], OLDER, output, room) == TWIMBOR_OUT_OF_RANGE && has(NULL));
+            EXPECT(twimbor_write_redundant(REPORT, 100, 2, OLDEST, older[i], output, room) == TWIMBOR_OUT_OF_RANGE && has(NULL));
+        }
+    static const uint32_t redundant_types[] = {101, 128, 256 + 100, UINT32_MAX};
+    for (size_t i = 0; i < sizeof redundant_types / sizeof *redundant_types; i++)
+        EXPECT(twimbor_write_redundant(REPORT, redundant_types[i], 0, OLDEST, OLDER, output, 40) == TWIMBOR_OUT_OF_RANGE && has(NULL));
+    twimbor_report wide = REPORT;
+    wide.payload_type = 256 + 101;
+    EXPECT(twimbor_write_redundant(wide, 100, 0, OLDEST, OLDER, output, 40) == TWIMBOR_OUT_OF_RANGE && has(NULL));
+
+    /* As far back as the field reaches. */
+    twimbor_older_report far = OLDEST;
+    far.timestamp = 0x3D8 - 16383u;
+    far.duration = 65535;
+    EXPECT(twimbor_write_redundant(REPORT, 0, 1, far, OLDER, output, 25) == 0);
+    static const uint8_t farthest[] = {
+        0x80, 0x80, 0x00, 0x07, 0x00, 0x00, 0x03, 0xD8, 0x11, 0x22, 0x33, 0x44,
+        0xE5, 0xFF, 0xFC, 0x04, 0x65, 0x05, 0x8A, 0xFF, 0xFF, 0x07, 0x14, 0x00, 0x64,
+    };
+    EXPECT(has_bytes(farthest, 25));
+}
+
+/* Whether the next block of a packet is so many of its bytes from a place on, of this type and offset. */
+static bool is_next(twimbor_walker *walker, size_t place, size_t bytes, uint8_t payload_type, uint16_t offset, bool primary)
+{
+    twimbor_block block;
+    memset(&block, 0xAB, sizeof block);
+    return twimbor_next_block(walker, &block) && block.data == walker->packet + place && block.bytes == bytes
+        && block.payload_type == payload_type && block.offset == offset && block.primary == primary;
+}
+
+/* Whether there are no more, and the block that is lent stays. */
+static bool is_over(twimbor_walker *walker)
+{
+    twimbor_block block, old;
+    memset(&old, 0xAB, sizeof old);
+    memcpy(&block, &old, sizeof block);
+    return !twimbor_next_block(walker, &block) && memcmp(&block, &old, sizeof block) == 0;
+}
+
+static bool same_cursor(twimbor_cursor a, twimbor_cursor b)
+{
+    return a.header == b.header && a.body == b.body && a.end == b.end;
+}
+
+/* Whether a cursor of any numbers is answered with a part of the packet, or with no block, zeros and itself. */
+static bool is_answered(const uint8_t *packet, size_t bytes, twimbor_cursor cursor)
+{
+    twimbor_block_step_result step = twimbor_block_step(packet, bytes, cursor);
+    if (step.found) return cursor.header < bytes && step.start <= step.end && step.end <= bytes && step.payload_type < 128;
+    return same_cursor(step.after, cursor) && step.start == 0 && step.end == 0 && step.offset == 0 && step.payload_type == 0
+        && !step.primary;
+}
+
+static void walking(void)
+{
+    twimbor_walker walker;
+    EXPECT(twimbor_walk(&walker, REDUNDANT, 33) == 0 && same_cursor(walker.cursor, (twimbor_cursor){12, 21, 33}));
+    EXPECT(is_next(&walker, 21, 4, 101, 1000, false));
+    twimbor_walker copy = walker;
+    EXPECT(is_next(&walker, 25, 4, 101, 400, false) && is_next(&walker, 29, 4, 101, 0, true));
+    EXPECT(is_over(&walker) && is_over(&walker));
+    EXPECT(is_next(&copy, 25, 4, 101, 400, false) && is_next(&copy, 29, 4, 101, 0, true) && is_over(&copy));
+
+    /* Cut at each place: the last block takes what is left. */
+    for (size_t bytes = 0; bytes <= 33; bytes++) {
+        uint8_t refusal = bytes < 12 ? TWIMBOR_TOO_SHORT : bytes < 21 ? TWIMBOR_HEADERS_RUN_OUT : bytes < 29 ? TWIMBOR_BLOCKS_TOO_LONG : 0;
+        memset(&walker, 0xAB, sizeof walker);
+        EXPECT(twimbor_walk(&walker, REDUNDANT, bytes) == refusal);
+        if (refusal != 0) EXPECT(same_cursor(walker.cursor, (twimbor_cursor){0, 0, 0}));
+        else EXPECT(is_next(&walker, 21, 4, 101, 1000, false) && is_next(&walker, 25, 4, 101, 400, false)
+            && is_next(&walker, 29, bytes - 29, 101, 0, true));
+        EXPECT(is_over(&walker));
+    }
+}
+
+static void walking_other(void)
+{
+    /* A CSRC, an extension and padding; blocks of other types, the first one empty. */
+    twimbor_walker walker;
+    static const uint8_t other[38] = {
+        0xB1, 0x00, 0, 0, 0, 0, 0, 0, 0, 0, 0, 0, 1, 2, 3, 4, 0xBE, 0xDE, 0, 1, 5, 6, 7, 8,
+        0x80, 0xFF, 0xFC, 0x00, 0xE4, 0x00, 0x00, 0x01, 0x7F, 0xAA, 0xBB, 0xCC, 0x00, 0x02,
+    };
+    EXPECT(twimbor_walk(&walker, other, sizeof other) == 0);
+    EXPECT(is_next(&walker, 33, 0, 0, 16383, false) && is_next(&walker, 33, 1, 100, 0, false) && is_next(&walker, 34, 2, 127, 0, true));
+    EXPECT(is_over(&walker));
+    EXPECT(twimbor_walk(&walker, other, 19) == TWIMBOR_HEADER_PAST_END && is_over(&walker));
+    EXPECT(twimbor_walk(&walker, other, 37) == TWIMBOR_BAD_PADDING && is_over(&walker));
+    EXPECT(twimbor_walk(&walker, other + 12, 26) == TWIMBOR_WRONG_VERSION && is_over(&walker));
+
+    /* As long as a block can be. */
+    static uint8_t longest[12 + 4 + 1 + 1023 + 1] = {0x80, 100, [12] = 0xE5, 0x40, 0x03, 0xFF, 0x65};
+    EXPECT(twimbor_walk(&walker, longest, sizeof longest) == 0);
+    EXPECT(is_next(&walker, 17, 1023, 101, 4096, false) && is_next(&walker, 1040, 1, 101, 0, true) && is_over(&walker));
+    EXPECT(twimbor_walk(&walker, longest, 12 + 4 + 1 + 1022) == TWIMBOR_BLOCKS_TOO_LONG && is_over(&walker));
+}
+
+/* Cursors that no walk came by. */
+static void cursors(void)
+{
+    static const size_t any[] = {0, 1, 11, 12, 16, 20, 21, 29, 32, 33, 34, 1024, SIZE_MAX / 2 + 1, SIZE_MAX - 4, SIZE_MAX};
+    enum { ANY = sizeof any / sizeof *any };
+    for (size_t i = 0; i < ANY * ANY * ANY; i++) {
+        twimbor_cursor cursor = {any[i / ANY / ANY], any[i / ANY % ANY], any[i % ANY]};
+        for (size_t bytes = 0; bytes <= 33; bytes += 11) EXPECT(is_answered(REDUNDANT, bytes, cursor));
+    }
+}
+
+/* A table of the second opening in the memory of `opened`, and a list of entries with something in each. */
+enum { LONG_LIST = 400 };
+static uint32_t entries[LONG_LIST], old_entries[LONG_LIST];
+
+static twimbor_table *opened_for_both(void)
+{
+    twimbor_table *table = opened();
+    table->head.both_types = 1;
+    table->head.redundant_type = 100;
+    memset(old_entries, 0xAB, sizeof old_entries);
+    memcpy(entries, old_entries, sizeof entries);
+    return table;
+}
+
+static bool entries_stay_from(size_t n)
+{
+    return memcmp(entries + n, old_entries + n, (LONG_LIST - n) * sizeof *entries) == 0;
+}
+
+/* Whether a packet is refused whole: table and entries stay. */
+static bool is_refused(twimbor_table *table, const uint8_t *packet, size_t bytes, size_t room, uint8_t refusal)
+{
+    twimbor_table before = *table;
+    twimbor_blocks_received r = twimbor_receive_redundant(table, packet, bytes, entries, room);
+    return r.refusal == refusal && r.blocks == 0 && r.count == before.head.count && same_table(table, &before) && entries_stay_from(0)
+        && around_stays();
+}
+
+static bool is_received(twimbor_table *table, const uint8_t *packet, size_t bytes, size_t room, size_t blocks, size_t count)
+{
+    twimbor_blocks_received r = twimbor_receive_redundant(table, packet, bytes, entries, room);
+    return r.refusal == 0 && r.blocks == blocks && r.count == count && table->head.count == count && entries_stay_from(blocks)
+        && around_stays();
+}
+
+/* An entry: refused with a number or not, its segment new or not, so many segments looked at. */
+#define ENTRY(refusal, is_new, probes) ((refusal) + 256 * (is_new) + 65536 * (probes))
+
+static void receiving_redundant(void)
+{
+    for (size_t room = 0; room <= 4; room++) {
+        twimbor_table *table = opened_for_both(), want = *table;
+        if (room < 3) {
+            EXPECT(is_refused(table, REDUNDANT, 33, room, TWIMBOR_LIST_TOO_SMALL));
+            continue;
+        }
+        EXPECT(is_received(table, REDUNDANT, 33, room, 3, 3));
+        EXPECT(entries[0] == ENTRY(0, 1, 0) && entries[1] == ENTRY(0, 1, 1) && entries[2] == ENTRY(0, 1, 1));
+        for (size_t i = 0; i < 3; i++) twimbor_set_segment(&want, i, BLOCKS[i]);
+        want.head.count = 3;
+        EXPECT(same_table(table, &want));
+        EXPECT(is_received(table, REDUNDANT, 33, room, 3, 3) && same_table(table, &want));
+        for (size_t i = 0; i < 3; i++) EXPECT(entries[i] == ENTRY(0, 0, 2));
+    }
+}
+
+/* Cut at each place, or with more after it. */
+static void receiving_parts(void)
+{
+    uint8_t longer[37] = {0};
+    memcpy(longer, REDUNDANT, 33);
+    for (size_t bytes = 0; bytes <= 37; bytes++) {
+        twimbor_table *table = opened_for_both();
+        uint8_t refusal = bytes < 12 ? TWIMBOR_TOO_SHORT : bytes < 21 ? TWIMBOR_HEADERS_RUN_OUT : bytes < 29 ? TWIMBOR_BLOCKS_TOO_LONG : 0;
+        EXPECT(is_refused(table, longer, bytes, 0, refusal != 0 ? refusal : TWIMBOR_LIST_TOO_SMALL));
+        if (refusal != 0) continue;
+        EXPECT(is_received(table, longer, bytes, 3, 3, bytes == 33 ? 3 : 2));
+        EXPECT(entries[2] == (bytes == 33 ? ENTRY(0, 1, 1) : bytes == 37 ? TWIMBOR_PACKED : TWIMBOR_NOT_ONE_REPORT));
+    }
+}
+
+static void receiving_others(void)
+{
+    /* Other numbers of the header, each before what comes after it in the order of refusals. */
+    uint8_t other[33];
+    memcpy(other, REDUNDANT, 33);
+    other[1] = 99;
+    other[11]++;
+    EXPECT(is_refused(opened_for_both(), other, 12, 0, TWIMBOR_OTHER_PAYLOAD_TYPE));
+    other[1] = 100;
+    EXPECT(is_refused(opened_for_both(), other, 12, 0, TWIMBOR_OTHER_SSRC));
+
+    /* No block of the event's type: nothing to take, and no entry is needed. */
+    memcpy(other, REDUNDANT, 33);
+    other[12] = other[16] = 128;
+    other[20] = 100;
+    twimbor_table *table = opened_for_both(), before = *table;
+    EXPECT(is_received(table, other, 33, 0, 0, 0) && same_table(table, &before));
+
+    /* The old receivers do not take it, into a table for both types either. */
+    EXPECT(twimbor_receive(table, REDUNDANT, 33).refusal == TWIMBOR_OTHER_PAYLOAD_TYPE && same_table(table, &before));
+    size_t at = put_frame(put_frame(0, REDUNDANT, 33), REPORTS[0], 16);
+    EXPECT(captured(twimbor_receive_capture(table, frames, at), 1, at, 1, 1, 0));
+    EXPECT(same_segment(twimbor_segment_at(table, 0), (twimbor_segment){
+        .offset = 0, .code = 5, .duration = 400, .volume = 10, .ended = false, .marked = true}));
+}
+
+/* RFC 4733, Figure 5: tones of type 101 are primary, and before them stands the last report of a 1, of type 100. */
+static void figure_5(void)
+{
+    static const uint8_t packet[] = {
+        0x80, 0x66, 0x00, 0x12, 0x00, 0x00, 0x32, 0x00, 0x00, 0x52, 0x34, 0xA8,
+        0xE4, 0x19, 0x00, 0x04, 0x65, 0x01, 0x94, 0x06, 0xE0, 0x00, 0x14, 0x00, 0xA0, 0x02, 0xB9, 0x04, 0xB9,
+    };
+    static const twimbor_segment one = {.offset = 11200, .code = 1, .duration = 1760, .volume = 20, .ended = true, .marked = false};
+    twimbor_table *table = opened_for_both();
+    EXPECT(twimbor_open_redundant(table, 100, 102, 0x5234A8, 0) == 0);
+    EXPECT(is_received(table, packet, sizeof packet, 1, 1, 1) && entries[0] == ENTRY(0, 1, 0));
+    EXPECT(same_segment(twimbor_segment_at(table, 0), one));
+    twimbor_walker walker;
+    EXPECT(twimbor_walk(&walker, packet, sizeof packet) == 0);
+    EXPECT(is_next(&walker, 17, 4, 100, 1600, false) && is_next(&walker, 21, 8, 101, 0, true) && is_over(&walker));
+}
+
+/* Plain packets: each is one block, and counts as marked if it is. */
+static void receiving_plain(void)
+{
+    twimbor_table *table = opened_for_both(), want = *table;
+    EXPECT(is_refused(table, REPORTS[0], 16, 0, TWIMBOR_LIST_TOO_SMALL));
+    for (int i = 0; i < 3; i++)
+        EXPECT(is_received(table, REPORTS[i], 16, 1, 1, 1) && entries[0] == (i == 0 ? ENTRY(0, 1, 0) : ENTRY(0, 0, 1)));
+    want.head.count = 1;
+    twimbor_set_segment(&want, 0, HEARD);
+    EXPECT(same_table(table, &want));
+    for (size_t i = 0; i < LENGTHS; i++)
+        EXPECT(is_received(table, long_packet(), lengths[i].bytes, 1, 1, 1) && entries[0] == lengths[i].refusal
+            && same_table(table, &want));
+}
+
+/* The blocks of one packet, each with what is answered to it at the origin of an empty table. */
+enum { PASSED_OVER = -1 };
+static const struct {
+    uint8_t type;
+    uint16_t offset;
+    uint8_t bytes, data[8];
+    int64_t entry;
+} mixed[] = {
+    {101, 0, 4, {5, 0x0A, 0x01, 0x90}, ENTRY(0, 1, 0)},
+    {100, 0, 4, {6, 0x0A, 0x01, 0x90}, PASSED_OVER},                                /* the redundant type is one of the others */
+    {101, 1, 4, {5, 0x0A, 0x01, 0x90}, ENTRY(TWIMBOR_OFFSET_TOO_LARGE, 0, 0)},      /* before the origin */
+    {101, 0, 0, {0}, ENTRY(TWIMBOR_NOT_ONE_REPORT, 0, 0)},
+    {101, 0, 3, {5, 0x0A, 0x01}, ENTRY(TWIMBOR_NOT_ONE_REPORT, 0, 0)},
+    {0, 16383, 5, {5, 0x0A, 0x01, 0x90, 0}, PASSED_OVER},
+    {101, 0, 8, {5, 0x0A, 0x01, 0x90, 5, 0x0A, 0x01, 0x90}, ENTRY(TWIMBOR_PACKED, 0, 0)},
+    {101, 0, 4, {16, 0x0A, 0x01, 0x90}, ENTRY(TWIMBOR_CODE_TOO_HIGH, 0, 0)},
+    {101, 0, 4, {5, 0x0A, 0, 0}, ENTRY(TWIMBOR_NO_DURATION, 0, 0)},
+    {101, 0, 4, {5, 0xC3, 0, 1}, ENTRY(0, 0, 1)},                                   /* E, R, louder, shorter */
+    {101, 0, 4, {4, 0x3F, 0xFF, 0xFF}, ENTRY(0, 1, 1)},                             /* before the segment held */
+    {101, 0, 4, {5, 0x0A, 0x01, 0x91}, ENTRY(0, 0, 2)},                             /* the primary */
+};
+enum { MIXED = sizeof mixed / sizeof *mixed };
+
+/* The packet of all of them, marked, with the last one's type as it is given. */
+static size_t put_mixed(uint8_t *packet, uint8_t last_type)
+{
+    static const uint8_t header[12] = {0x80, 0xE4, 0, 0, 0xFF, 0xFF, 0xFF, 0xF0, 0x11, 0x22, 0x33, 0x44};
+    size_t at = 12;
+    memcpy(packet, header, 12);
+    for (size_t i = 0; i + 1 < MIXED; i++) {
+        packet[at++] = 128 + mixed[i].type;
+        packet[at++] = (uint8_t)(mixed[i].offset / 64);
+        packet[at++] = (uint8_t)(mixed[i].offset % 64 * 4);
+        packet[at++] = mixed[i].bytes;
+    }
+    packet[at++] = last_type;
+    for (size_t i = 0; i < MIXED; i++) {
+        memcpy(packet + at, mixed[i].data, mixed[i].bytes);
+        at += mixed[i].bytes;
+    }
+    return at;
+}
+
+static void receiving_mixed(void)
+{
+    uint8_t packet[128];
+    for (int primary = 0; primary < 2; primary++) {
+        size_t bytes = put_mixed(packet, primary ? 101 : 0), blocks = primary ? 10 : 9, n = 0;
+        twimbor_table *table = opened_for_both(), want = *table;
+        EXPECT(is_refused(table, packet, bytes, blocks - 1, TWIMBOR_LIST_TOO_SMALL));
+        EXPECT(is_received(table, packet, bytes, blocks, blocks, 2));
+        for (size_t i = 0; i < MIXED && n < blocks; i++)
+            if (mixed[i].entry != PASSED_OVER) EXPECT(entries[n++] == mixed[i].entry);
+        want.head.count = 2;
+        twimbor_set_segment(&want, 0, (twimbor_segment){.offset = 0, .code = 4, .duration = 65535, .volume = 63});
+        twimbor_set_segment(&want, 1, (twimbor_segment){
+            .offset = 0, .code = 5, .duration = primary ? 401 : 400, .volume = 3, .ended = true, .marked = primary});
+        EXPECT(same_table(table, &want));
+    }
+}
+
+/* A full table: the blocks of pairs that it holds are taken, the others not; and as many blocks as 1500 bytes have. */
+static void receiving_many(void)
+{
+    twimbor_table *table = opened_for_both();
+    for (uint32_t i = 0; i < 128; i++)
+        twimbor_set_segment(table, i, (twimbor_segment){.offset = i < 127 ? i : 1000, .code = i == 0 ? 5 : 7, .duration = 1, .volume = 63});
+    table->head.count = 128;
+    EXPECT(is_received(table, REDUNDANT, 33, 3, 3, 128));
+    EXPECT(entries[0] == ENTRY(0, 0, 8) && entries[1] == ENTRY(TWIMBOR_TABLE_FULL, 0, 7) && entries[2] == ENTRY(0, 0, 7));
+    EXPECT(same_segment(twimbor_segment_at(table, 0), BLOCKS[0]) && same_segment(twimbor_segment_at(table, 127), BLOCKS[2]));
+
+    static uint8_t packet[1500];
+    memcpy(packet, REDUNDANT, 12);
+    for (size_t at = 12; at < 12 + 4 * 371; at += 4) packet[at] = 128 + 101;
+    packet[12 + 4 * 371] = 101;
+    table = opened_for_both();
+    EXPECT(is_refused(table, packet, 1500, TWIMBOR_ENTRIES_OF_1500 - 1, TWIMBOR_LIST_TOO_SMALL));
+    EXPECT(is_received(table, packet, 1500, TWIMBOR_ENTRIES_OF_1500, TWIMBOR_ENTRIES_OF_1500, 0));
+    for (size_t i = 0; i < TWIMBOR_ENTRIES_OF_1500; i++) EXPECT(entries[i] == TWIMBOR_NOT_ONE_REPORT);
+}
+
+/* Heads that only a caller can fill: the kind of a table by any byte, and a type that plays no part in one of the first opening. */
+static void kinds(void)
+{
+    static const uint8_t both[] = {1, 2, 127, 128, 255}, wrong[] = {101, 128, 255}, any[] = {0, 100, 101, 128, 255};
+    twimbor_event list[1];
+    for (size_t i = 0; i < sizeof both; i++) {
+        twimbor_table *table = opened_for_both();
+        table->head.both_types = both[i];
+        EXPECT(twimbor_is_valid(table) && is_received(table, REDUNDANT, 33, 3, 3, 3) && table->head.both_types == both[i]);
+        for (size_t j = 0; j < sizeof wrong; j++) {
+            table = opened_for_both();
+            table->head.both_types = both[i];
+            table->head.redundant_type = wrong[j];
+            EXPECT(!twimbor_is_valid(table) && is_refused(table, REDUNDANT, 33, 3, TWIMBOR_INVALID_TABLE));
+            EXPECT(is_refused(table, REPORTS[0], 0, 0, TWIMBOR_INVALID_TABLE));
+            EXPECT(twimbor_receive(table, REPORTS[0], 16).refusal == TWIMBOR_INVALID_TABLE);
+            EXPECT(twimbor_receive_capture(table, frames, 0).refusal == TWIMBOR_INVALID_TABLE);
+            EXPECT(twimbor_event_at(table, 1).refusal == TWIMBOR_INVALID_TABLE);
+            EXPECT(twimbor_list(table, list, 1).refusal == TWIMBOR_INVALID_TABLE);
+        }
+    }
+    for (size_t j = 0; j < sizeof any; j++) {
+        twimbor_table *table = opened_for_both();
+        table->head.both_types = 0;
+        table->head.redundant_type = any[j];
+        EXPECT(twimbor_is_valid(table) && is_refused(table, REDUNDANT, 33, 3, TWIMBOR_OTHER_PAYLOAD_TYPE));
+        EXPECT(is_received(table, REPORTS[0], 16, 1, 1, 1) && table->head.both_types == 0 && table->head.redundant_type == any[j]);
+    }
+}
+
+static void reading_entries(void)
+{
+    static const struct {
+        uint32_t entry;
+        uint8_t refusal;
+        bool is_new;
+        uint32_t probes;
+    } rows[] = {
+        {0, 0, false, 0}, {0x00000100, 0, true, 0}, {0x00070100, 0, true, 7}, {0x00080000, 0, false, 8}, {0x0008000B, 11, false, 8},
+        {0x00000011, 17, false, 0},
+    };
+    for (size_t i = 0; i < sizeof rows / sizeof *rows; i++) {
+        EXPECT(twimbor_entry_refusal(rows[i].entry) == rows[i].refusal && twimbor_entry_is_new(rows[i].entry) == rows[i].is_new);
+        EXPECT(twimbor_entry_probes(rows[i].entry) == rows[i].probes);
     }
 }
 
@@ -419,9 +887,11 @@ static void segments(void)
 /* Words and keys at their edges; rust/tests/layout.rs compares all of them. In fewer bits the last numbers look like 0 or 1. */
 static void words(void)
 {
-    static const uint64_t unknown[] = {18, 255, 256, 257, 0x100000000, 0x100000001, UINT64_MAX};
+    static const uint64_t unknown[] = {20, 255, 256, 257, 0x100000000, 0x100000001, UINT64_MAX};
     static const uint32_t no_key[] = {16, 256, 257, 0x10001, UINT32_MAX};
     EXPECT(strcmp(twimbor_refusal_text(0), "nothing is refused") == 0);
+    EXPECT(strcmp(twimbor_refusal_text(18), "the redundant packet's block headers run past its end") == 0);
+    EXPECT(strcmp(twimbor_refusal_text(19), "the redundant packet's block lengths come to more than its data") == 0);
     for (size_t i = 0; i < sizeof unknown / sizeof *unknown; i++)
         EXPECT(strcmp(twimbor_refusal_text(unknown[i]), "a refusal that this version does not know") == 0);
     EXPECT(twimbor_key_character(0) == '0' && twimbor_key_character(15) == 'D');
@@ -433,11 +903,26 @@ int main(void)
     packets();
     plans();
     opening();
+    opening_for_both();
     receiving();
     capturing();
     listing();
     short_segments();
     failing();
+    writing_redundant();
+    out_of_range();
+    walking();
+    walking_other();
+    cursors();
+    receiving_redundant();
+    receiving_parts();
+    receiving_others();
+    figure_5();
+    receiving_plain();
+    receiving_mixed();
+    receiving_many();
+    kinds();
+    reading_entries();
     segments();
     words();
     printf("the boundary from C: as expected\n");

@@ -1,4 +1,4 @@
-/* The size of each struct of the header, and each field's place and size, as the archive has them. */
+/* The size of each struct of the header, each field's place and size, and the numbers of its constants, as the archive has them. */
 #include "../include/twimbor.h"
 
 #define SIZE(type, bytes) _Static_assert(sizeof(type) == bytes, #type)
@@ -15,6 +15,13 @@ AT(twimbor_report, code, 20, 4);
 AT(twimbor_report, ended, 24, 1);
 AT(twimbor_report, volume, 28, 4);
 AT(twimbor_report, duration, 32, 4);
+
+SIZE(twimbor_older_report, 20);
+AT(twimbor_older_report, timestamp, 0, 4);
+AT(twimbor_older_report, code, 4, 4);
+AT(twimbor_older_report, ended, 8, 1);
+AT(twimbor_older_report, volume, 12, 4);
+AT(twimbor_older_report, duration, 16, 4);
 
 SIZE(twimbor_plan, 36);
 AT(twimbor_plan, payload_type, 0, 4);
@@ -35,8 +42,40 @@ SIZE(twimbor_count_result, 8);
 AT(twimbor_count_result, reports, 0, 4);
 AT(twimbor_count_result, refusal, 4, 1);
 
+SIZE(twimbor_cursor, 24);
+AT(twimbor_cursor, header, 0, 8);
+AT(twimbor_cursor, body, 8, 8);
+AT(twimbor_cursor, end, 16, 8);
+
+SIZE(twimbor_walk_started, 32);
+AT(twimbor_walk_started, cursor, 0, 24);
+AT(twimbor_walk_started, refusal, 24, 1);
+
+SIZE(twimbor_block_step_result, 48);
+AT(twimbor_block_step_result, after, 0, 24);
+AT(twimbor_block_step_result, start, 24, 8);
+AT(twimbor_block_step_result, end, 32, 8);
+AT(twimbor_block_step_result, offset, 40, 2);
+AT(twimbor_block_step_result, payload_type, 42, 1);
+AT(twimbor_block_step_result, primary, 43, 1);
+AT(twimbor_block_step_result, found, 44, 1);
+
+SIZE(twimbor_walker, 40);
+AT(twimbor_walker, packet, 0, 8);
+AT(twimbor_walker, bytes, 8, 8);
+AT(twimbor_walker, cursor, 16, 24);
+
+SIZE(twimbor_block, 24);
+AT(twimbor_block, data, 0, 8);
+AT(twimbor_block, bytes, 8, 8);
+AT(twimbor_block, payload_type, 16, 1);
+AT(twimbor_block, offset, 18, 2);
+AT(twimbor_block, primary, 20, 1);
+
 SIZE(twimbor_head, 24);
 AT(twimbor_head, payload_type, 0, 1);
+AT(twimbor_head, both_types, 1, 1);
+AT(twimbor_head, redundant_type, 2, 1);
 AT(twimbor_head, ssrc, 4, 4);
 AT(twimbor_head, origin, 8, 4);
 AT(twimbor_head, count, 16, 8);
@@ -68,6 +107,11 @@ AT(twimbor_captured, taken, 24, 8);
 AT(twimbor_captured, refused, 32, 8);
 AT(twimbor_captured, packed, 40, 8);
 
+SIZE(twimbor_blocks_received, 24);
+AT(twimbor_blocks_received, blocks, 0, 8);
+AT(twimbor_blocks_received, count, 8, 8);
+AT(twimbor_blocks_received, refusal, 16, 1);
+
 SIZE(twimbor_event, 16);
 AT(twimbor_event, code, 0, 1);
 AT(twimbor_event, start, 4, 4);
@@ -87,3 +131,16 @@ AT(twimbor_listed, events, 8, 8);
 SIZE(twimbor_opened, 1568);
 AT(twimbor_opened, table, 0, 1560);
 AT(twimbor_opened, refusal, 1560, 1);
+
+#define IS(name, number) _Static_assert(name == number, #name)
+IS(TWIMBOR_PLACES, 128);
+IS(TWIMBOR_LONGEST_EVENT, 16 * 65535);
+IS(TWIMBOR_PACKET_BYTES, 12 + 4);
+IS(TWIMBOR_OLDER_REPORTS, 2);
+IS(TWIMBOR_REDUNDANT_BYTES, 12 + 2 * 4 + 1 + 3 * 4);
+IS(TWIMBOR_ENTRIES_OF_1500, (1500 - 12 - 1) / 4 + 1); /* every block empty and of the event's type */
+IS(TWIMBOR_LIST_TOO_SMALL, 15);
+IS(TWIMBOR_INVALID_TABLE, 16);
+IS(TWIMBOR_PACKED, 17);
+IS(TWIMBOR_HEADERS_RUN_OUT, 18);
+IS(TWIMBOR_BLOCKS_TOO_LONG, 19);

@@ -43,7 +43,7 @@ int main(void)
         return 0;
     }
     static twimbor_table t;
-    t.head = (twimbor_head){(uint8_t)type, ssrc, origin, 0};
+    t.head = (twimbor_head){.payload_type = (uint8_t)type, .ssrc = ssrc, .origin = origin};
     uint64_t taken = 0, refused = 0, packed = 0;
     size_t kept = 0;
     ssize_t got;

@@ -16,4 +16,8 @@ plain_answer plain_receive(twimbor_table *t, const uint8_t *p, size_t n);
 plain_answer plain_receive_valid(twimbor_table *t, const uint8_t *p, size_t n);     /* the table passes the tests */
 twimbor_captured plain_receive_capture(twimbor_table *t, const uint8_t *frames, size_t bytes);
 
+twimbor_blocks_received plain_receive_redundant(twimbor_table *t, const uint8_t *p, size_t n, uint32_t *entries, size_t room);
+uint8_t plain_walk(twimbor_walker *w, const uint8_t *packet, size_t bytes);
+bool plain_next_block(twimbor_walker *w, twimbor_block *b);
+
 twimbor_listed plain_list(const twimbor_table *t, twimbor_event *out, size_t room);

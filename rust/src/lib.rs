@@ -1,5 +1,7 @@
 //! RTP packets that carry one telephone-event report (RFC 4733): a reader and a writer of packets,
 //! a sender's plan for one event, a receiving table, and the list of events that the table holds.
+//! Redundant packets (RFC 2198) carry several in blocks: a writer of them, a walker over their
+//! blocks, and a receiver.
 //!
 //! All of it is done by the static library, whose every function is proved to meet its contract.
 //! This crate gives its calls Rust's names and types.
@@ -48,6 +50,7 @@
 #[cfg(feature = "alloc")]
 extern crate alloc;
 
+mod blocks;
 mod event;
 mod plan;
 mod refusal;
@@ -56,8 +59,9 @@ mod report;
 pub mod sys;
 mod table;
 
+pub use blocks::{Block, Blocks};
 pub use event::Event;
 pub use plan::{LONGEST_EVENT, Packets, Plan};
 pub use refusal::{Refusal, UnknownRefusal};
-pub use report::{PACKET_BYTES, Report};
-pub use table::{Captured, Head, PLACES, Segment, Table, Taken};
+pub use report::{OLDER_REPORTS, OlderReport, PACKET_BYTES, REDUNDANT_BYTES, Report};
+pub use table::{Captured, Entry, Head, PLACES, Segment, Table, Taken};

@@ -2,11 +2,17 @@ use core::error::Error;
 use core::fmt;
 
 /// Why a call refused what it was given. It gives the first reason that holds: [`InvalidTable`]
-/// before all others, then by rising number, but [`Packed`] at the place of [`NotOneReport`].
+/// before all others, then by rising number, but [`Packed`] at the place of [`NotOneReport`], and
+/// for redundant packets [`HeadersRunOut`], [`BlocksTooLong`] and [`ListTooSmall`], in this order,
+/// right after [`OtherSsrc`].
 ///
 /// [`InvalidTable`]: Refusal::InvalidTable
 /// [`Packed`]: Refusal::Packed
 /// [`NotOneReport`]: Refusal::NotOneReport
+/// [`HeadersRunOut`]: Refusal::HeadersRunOut
+/// [`BlocksTooLong`]: Refusal::BlocksTooLong
+/// [`ListTooSmall`]: Refusal::ListTooSmall
+/// [`OtherSsrc`]: Refusal::OtherSsrc
 ///
 /// ```
 /// use twimbor::{Refusal, Report};
@@ -30,7 +36,7 @@ pub enum Refusal {
     HeaderPastEnd = 3,
     /// P is set, and the pad count is 0 or above the bytes after header, CSRC list and extension.
     BadPadding = 4,
-    /// Not the table's payload type.
+    /// Not the table's payload type, or neither of its two.
     OtherPayloadType = 5,
     /// Not the table's SSRC.
     OtherSsrc = 6,
@@ -44,18 +50,23 @@ pub enum Refusal {
     OffsetTooLarge = 10,
     /// The table holds 128 segments, and this pair of offset and code is none of them.
     TableFull = 11,
-    /// A number given to open, write or plan is outside its range.
+    /// A number given to open, write or plan is outside its range, or two payload types are equal.
     OutOfRange = 12,
     /// The report or event number is 0 or above the count.
     NoSuchNumber = 13,
-    /// The output has fewer than 16 bytes.
+    /// The output has fewer bytes than the packet.
     OutputTooSmall = 14,
-    /// The lent list has fewer records than there are events.
+    /// The lent list has fewer records than there are events, or entries than blocks of the event's
+    /// type.
     ListTooSmall = 15,
     /// The table fails a test; see [`Table::is_valid`](crate::Table::is_valid).
     InvalidTable = 16,
     /// The payload has 8, 12 or more bytes in whole fours: several reports in one packet.
     Packed = 17,
+    /// A redundant packet's block headers run past the payload's end.
+    HeadersRunOut = 18,
+    /// A redundant packet's block lengths come to more than its data.
+    BlocksTooLong = 19,
     /// A refusal that this version does not know: the static library is newer than the crate.
     Unknown = 255,
 }
@@ -64,7 +75,7 @@ use Refusal::*;
 
 impl Refusal {
     /// All refusals that this version knows, by number.
-    pub const ALL: [Refusal; 17] = [
+    pub const ALL: [Refusal; 19] = [
         TooShort,
         WrongVersion,
         HeaderPastEnd,
@@ -82,9 +93,11 @@ impl Refusal {
         ListTooSmall,
         InvalidTable,
         Packed,
+        HeadersRunOut,
+        BlocksTooLong,
     ];
 
-    /// The refusal's number, 1 to 17; 255 for [`Unknown`](Refusal::Unknown).
+    /// The refusal's number, 1 to 19; 255 for [`Unknown`](Refusal::Unknown).
     pub fn number(self) -> u8 {
         self as u8
     }
@@ -93,7 +106,7 @@ impl Refusal {
 impl TryFrom<u8> for Refusal {
     type Error = UnknownRefusal;
 
-    /// The refusal with this number, 1 to 17.
+    /// The refusal with this number, 1 to 19.
     fn try_from(number: u8) -> Result<Refusal, UnknownRefusal> {
         let place = usize::from(number).wrapping_sub(1);
         Refusal::ALL.get(place).copied().ok_or(UnknownRefusal(number))
@@ -106,7 +119,7 @@ impl TryFrom<u8> for Refusal {
 /// use twimbor::{Refusal, UnknownRefusal};
 ///
 /// assert_eq!(Refusal::try_from(11), Ok(Refusal::TableFull));
-/// assert_eq!(Refusal::try_from(18), Err(UnknownRefusal(18)));
+/// assert_eq!(Refusal::try_from(20), Err(UnknownRefusal(20)));
 /// ```
 #[derive(Clone, Copy, Debug, PartialEq, Eq, Hash)]
 pub struct UnknownRefusal(pub u8);
@@ -135,13 +148,17 @@ impl fmt::Display for Refusal {
             TableFull => "the table holds 128 segments, and the report's is none of them",
             OutOfRange => "a number given is outside its range",
             NoSuchNumber => "the report or event number is 0 or above the count",
-            OutputTooSmall => "the output has fewer than 16 bytes",
-            ListTooSmall => "the lent list has fewer records than there are events",
+            OutputTooSmall => "the output has fewer bytes than the packet",
+            ListTooSmall => {
+                "the lent list has fewer records than there are events, or entries than blocks"
+            }
             InvalidTable => {
                 "the table has more than 128 segments, segments out of order, or a number \
                  outside its range"
             }
             Packed => "the packet's payload is several reports packed together",
+            HeadersRunOut => "the redundant packet's block headers run past its end",
+            BlocksTooLong => "the redundant packet's block lengths come to more than its data",
             Unknown => "a refusal that this version does not know",
         })
     }
@@ -162,8 +179,8 @@ pub(crate) fn unless_refused<T>(number: impl Into<u64>, value: T) -> Result<T, R
 #[test]
 fn an_unknown_number_is_refused() {
     assert_eq!(unless_refused(0u8, ()), Ok(()));
-    assert_eq!(unless_refused(17u8, ()), Err(Packed));
-    for number in [18, 255, 256, 257, u64::MAX] {
+    assert_eq!(unless_refused(19u8, ()), Err(BlocksTooLong));
+    for number in [20, 255, 256, 257, u64::MAX] {
         assert_eq!(unless_refused(number, ()), Err(Unknown));
     }
 }

@@ -2,10 +2,10 @@
 //! same with `Result` and [`Refusal`](crate::Refusal).
 //!
 //! Each call answers the refusal's number, 0 if nothing is refused. Under a refusal nothing lent
-//! changes, and the values answered are zeros, but for the count of [`Received`] and [`Captured`],
-//! and the probes under 11.
+//! changes, and the values answered are zeros, but for the count of [`Received`], [`Captured`] and
+//! [`BlocksReceived`], and the probes under 11.
 
-use crate::{Event, Head, PLACES, Plan, Report, Table};
+use crate::{Entry, Event, Head, OlderReport, PLACES, Plan, Report, Table};
 
 /// What [`read`] answers.
 #[repr(C)]
@@ -27,7 +27,49 @@ pub struct CountResult {
     pub refusal: u8,
 }
 
-/// What [`open_table`] answers.
+/// Where a walk over the blocks of a redundant packet stands.
+#[repr(C)]
+#[derive(Clone, Copy, Debug, Default, PartialEq, Eq)]
+pub struct Cursor {
+    /// The place of the next block's header.
+    pub header: usize,
+    /// The place of its data.
+    pub body: usize,
+    /// Where the payload ends.
+    pub end: usize,
+}
+
+/// What [`walk_start`] answers.
+#[repr(C)]
+#[derive(Clone, Copy, Debug, PartialEq, Eq)]
+pub struct WalkStarted {
+    /// Where the first block stands.
+    pub cursor: Cursor,
+    /// The refusal's number, or 0.
+    pub refusal: u8,
+}
+
+/// What [`block_step`] answers.
+#[repr(C)]
+#[derive(Clone, Copy, Debug, Default, PartialEq, Eq)]
+pub struct BlockStepResult {
+    /// Where the walk goes on; as it was if there is no block.
+    pub after: Cursor,
+    /// The block's data are the packet's bytes from here.
+    pub start: usize,
+    /// Up to here.
+    pub end: usize,
+    /// How much earlier than the packet's timestamp its own is; 0 for the primary.
+    pub offset: u16,
+    /// 0 to 127.
+    pub payload_type: u8,
+    /// It is the last block.
+    pub primary: bool,
+    /// False if there are no more blocks; all others but `after` are then zeros.
+    pub found: bool,
+}
+
+/// What [`open_table`] and [`open_redundant_table`] answer.
 #[repr(C)]
 #[derive(Clone, Debug, PartialEq, Eq)]
 pub struct Opened {
@@ -69,6 +111,18 @@ pub struct Captured {
     pub packed: usize,
 }
 
+/// What [`receive_redundant_columns`] answers.
+#[repr(C)]
+#[derive(Clone, Copy, Debug, PartialEq, Eq)]
+pub struct BlocksReceived {
+    /// The entries written; 0 if refused whole.
+    pub blocks: usize,
+    /// The segments held after the call; if refused whole, as many as before.
+    pub count: usize,
+    /// The number with which the packet is refused whole, or 0.
+    pub refusal: u8,
+}
+
 /// What [`event_at_columns`] answers.
 #[repr(C)]
 #[derive(Clone, Copy, Debug, PartialEq, Eq)]
@@ -93,13 +147,31 @@ type Keys = [u64; PLACES];
 type Heard = [u32; PLACES];
 
 // The compiler cannot check these lines against the library. They follow include/twimbor.h, and the
-// tests compare the structs' places with the header's and the calls' answers with document 01.
+// tests compare the structs' places with the header's and the calls' answers with documents 01 and
+// 02.
 unsafe extern "C" {
     fn twimbor_read(packet: *const u8, bytes: usize) -> ReadResult;
     fn twimbor_write(report: Report, output: *mut u8, bytes: usize) -> u8;
+    fn twimbor_write_redundant(
+        report: Report,
+        redundant_type: u32,
+        count: u32,
+        first: OlderReport,
+        second: OlderReport,
+        output: *mut u8,
+        bytes: usize,
+    ) -> u8;
+    fn twimbor_walk_start(packet: *const u8, bytes: usize) -> WalkStarted;
+    fn twimbor_block_step(packet: *const u8, bytes: usize, cursor: Cursor) -> BlockStepResult;
     safe fn twimbor_report_count(plan: Plan) -> CountResult;
     fn twimbor_write_report(plan: Plan, k: u32, output: *mut u8, bytes: usize) -> u8;
     safe fn twimbor_open_table(payload_type: u32, ssrc: u32, origin: u32) -> Opened;
+    safe fn twimbor_open_redundant_table(
+        payload_type: u32,
+        redundant_type: u32,
+        ssrc: u32,
+        origin: u32,
+    ) -> Opened;
     safe fn twimbor_is_valid_columns(head: Head, keys: &Keys, heard: &Heard) -> bool;
     fn twimbor_receive_columns(
         head: Head,
@@ -115,6 +187,15 @@ unsafe extern "C" {
         frames: *const u8,
         bytes: usize,
     ) -> Captured;
+    fn twimbor_receive_redundant_columns(
+        head: Head,
+        keys: &mut Keys,
+        heard: &mut Heard,
+        packet: *const u8,
+        bytes: usize,
+        entries: *mut Entry,
+        room: usize,
+    ) -> BlocksReceived;
     safe fn twimbor_event_at_columns(head: Head, keys: &Keys, heard: &Heard, k: u32)
     -> EventResult;
     fn twimbor_list_columns(
@@ -139,6 +220,29 @@ pub fn write(report: Report, output: &mut [u8]) -> u8 {
     unsafe { twimbor_write(report, output.as_mut_ptr(), output.len()) }
 }
 
+/// Writes a redundant packet at the start of the output, and answers the refusal's number. So many
+/// older reports count, in their order.
+pub fn write_redundant(
+    report: Report,
+    redundant_type: u32,
+    count: u32,
+    [first, second]: [OlderReport; 2],
+    output: &mut [u8],
+) -> u8 {
+    let (start, bytes) = (output.as_mut_ptr(), output.len());
+    unsafe { twimbor_write_redundant(report, redundant_type, count, first, second, start, bytes) }
+}
+
+/// Starts a walk over the blocks of a redundant packet.
+pub fn walk_start(packet: &[u8]) -> WalkStarted {
+    unsafe { twimbor_walk_start(packet.as_ptr(), packet.len()) }
+}
+
+/// The block at a cursor, and the cursor after it. A cursor of any numbers is answered.
+pub fn block_step(packet: &[u8], cursor: Cursor) -> BlockStepResult {
+    unsafe { twimbor_block_step(packet.as_ptr(), packet.len(), cursor) }
+}
+
 /// How many reports a plan has.
 pub fn report_count(plan: Plan) -> CountResult {
     twimbor_report_count(plan)
@@ -152,6 +256,16 @@ pub fn write_report(plan: Plan, k: u32, output: &mut [u8]) -> u8 {
 /// An empty table.
 pub fn open_table(payload_type: u32, ssrc: u32, origin: u32) -> Opened {
     twimbor_open_table(payload_type, ssrc, origin)
+}
+
+/// An empty table for packets of the event's payload type and for redundant ones.
+pub fn open_redundant_table(
+    payload_type: u32,
+    redundant_type: u32,
+    ssrc: u32,
+    origin: u32,
+) -> Opened {
+    twimbor_open_redundant_table(payload_type, redundant_type, ssrc, origin)
 }
 
 /// Whether a table passes the tests of refusal 16.
@@ -172,6 +286,19 @@ pub fn receive_capture_columns(
     frames: &[u8],
 ) -> Captured {
     unsafe { twimbor_receive_capture_columns(head, keys, heard, frames.as_ptr(), frames.len()) }
+}
+
+/// Receives a packet that may be redundant, with what is answered to its blocks in lent entries.
+pub fn receive_redundant_columns(
+    head: Head,
+    keys: &mut Keys,
+    heard: &mut Heard,
+    packet: &[u8],
+    entries: &mut [Entry],
+) -> BlocksReceived {
+    let (start, room) = (entries.as_mut_ptr(), entries.len());
+    let (first, bytes) = (packet.as_ptr(), packet.len());
+    unsafe { twimbor_receive_redundant_columns(head, keys, heard, first, bytes, start, room) }
 }
 
 /// The event at number k.

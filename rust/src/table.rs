@@ -51,8 +51,12 @@ impl Segment {
 #[repr(C)]
 #[derive(Clone, Copy, Debug, Default, PartialEq, Eq, Hash)]
 pub struct Head {
-    /// The payload type that is received, 0 to 127.
+    /// The event's payload type, 0 to 127.
     pub payload_type: u8,
+    /// 0 if opened for one payload type; else for redundant packets too.
+    pub both_types: u8,
+    /// Then their payload type, 0 to 127 and another than the event's; else nothing looks at it.
+    pub redundant_type: u8,
     /// The source that is received.
     pub ssrc: u32,
     /// The timestamp that offsets are counted from.
@@ -65,6 +69,7 @@ pub struct Head {
 ///
 /// [`Table::open`] makes an empty one, and [`Table::receive`] leaves a valid one valid. To store a
 /// table, keep its [`segments`](Table::segments); [`Table::from_segments`] makes it again.
+/// [`Table::open_redundant`] makes one for redundant packets too.
 ///
 /// ```
 /// use twimbor::{Refusal, Segment, Table};
@@ -94,13 +99,53 @@ pub struct Table {
     pub heard: [u32; PLACES],
 }
 
-/// What [`Table::receive`] says of a packet that it took.
+/// What [`Table::receive`] says of a packet that it took, and an [`Entry`] of a block.
 #[derive(Clone, Copy, Debug, PartialEq, Eq, Hash)]
 pub enum Taken {
     /// The table did not hold the report's segment before.
     New,
     /// The table held the report's segment already.
     Known,
+}
+
+/// What [`Table::receive_redundant`] says of one block.
+///
+/// ```
+/// use twimbor::{Entry, Refusal, Taken};
+///
+/// assert_eq!(Entry::from(7 << 16 | 11).answer(), Err(Refusal::TableFull));
+/// assert_eq!(Entry::from(7 << 16 | 11).probes(), 7);
+/// assert_eq!(Entry::from(256).answer(), Ok(Taken::New));
+/// assert_eq!(Entry::default().answer(), Ok(Taken::Known));
+/// ```
+#[repr(transparent)]
+#[derive(Clone, Copy, Debug, Default, PartialEq, Eq, Hash)]
+pub struct Entry(u32);
+
+impl Entry {
+    /// Whether the block was taken, or why it was refused.
+    pub fn answer(&self) -> Result<Taken, Refusal> {
+        let taken = if self.0 >> 8 & 1 == 1 { Taken::New } else { Taken::Known };
+        unless_refused(self.0 as u8, taken)
+    }
+
+    /// How many of the segments held were looked at to find the block's, as
+    /// [`Table::receive_counting`] tells it.
+    pub fn probes(&self) -> u32 {
+        self.0 >> 16
+    }
+
+    /// The entry as C has it: the refusal's number or 0, 256 if the segment is new, and 65,536 for
+    /// each segment looked at.
+    pub fn number(&self) -> u32 {
+        self.0
+    }
+}
+
+impl From<u32> for Entry {
+    fn from(number: u32) -> Entry {
+        Entry(number)
+    }
 }
 
 /// What [`Table::receive_capture`] says of the frames that it received.
@@ -137,8 +182,31 @@ impl Table {
         unless_refused(opened.refusal, opened.table)
     }
 
-    /// A table that holds these segments. Refusals: 12; 16 if it fails the tests of
-    /// [`Table::is_valid`].
+    /// An empty table for the packets of one SSRC that are of the event's payload type or
+    /// redundant. Refusal: 12, also if the two types are equal. They are numbers of any type.
+    ///
+    /// ```
+    /// use twimbor::{Refusal, Table};
+    ///
+    /// let table = Table::open_redundant(101, 96, 0x1122_3344, 5000)?;
+    /// assert_eq!((table.head.payload_type, table.head.redundant_type), (101, 96));
+    /// assert_eq!(Table::open_redundant(101, 101, 0x1122_3344, 5000), Err(Refusal::OutOfRange));
+    /// # Ok::<(), Refusal>(())
+    /// ```
+    pub fn open_redundant(
+        payload_type: impl TryInto<u32>,
+        redundant_type: impl TryInto<u32>,
+        ssrc: u32,
+        origin: u32,
+    ) -> Result<Table, Refusal> {
+        let payload_type = payload_type.try_into().map_err(|_| Refusal::OutOfRange)?;
+        let redundant_type = redundant_type.try_into().map_err(|_| Refusal::OutOfRange)?;
+        let opened = sys::open_redundant_table(payload_type, redundant_type, ssrc, origin);
+        unless_refused(opened.refusal, opened.table)
+    }
+
+    /// A table for one payload type that holds these segments; for both, the head's two fields are
+    /// set afterwards. Refusals: 12; 16 if it fails the tests of [`Table::is_valid`].
     pub fn from_segments(
         payload_type: impl TryInto<u32>,
         ssrc: u32,
@@ -164,13 +232,14 @@ impl Table {
 
     /// Whether the table passes the tests of refusal 16: at most 128 segments, strictly rising by
     /// offset, then code; offsets below 2^31, codes 0 to 15, durations at least 1, volumes 0 to 63;
-    /// payload type up to 127.
+    /// payload type up to 127; in a table opened for both types the other one up to 127 too, and
+    /// another.
     pub fn is_valid(&self) -> bool {
         sys::is_valid_columns(self.head, &self.keys, &self.heard)
     }
 
-    /// Receives a packet. Refusals: 16, then 1 to 11 with 17 at the place of
-    /// 7; the table stays as it was.
+    /// Receives a packet of the event's payload type. Refusals: 16, then 1 to 11 with 17 at the
+    /// place of 7; the table stays as it was.
     pub fn receive(&mut self, packet: &[u8]) -> Result<Taken, Refusal> {
         self.receive_counting(packet).0
     }
@@ -211,6 +280,44 @@ impl Table {
         let captured =
             Captured { used: got.used, taken: got.taken, refused: got.refused, packed: got.packed };
         unless_refused(got.refusal, captured)
+    }
+
+    /// Receives a packet that may be redundant (RFC 2198), into a table of either opening, and
+    /// answers how many entries were written: one for each block of the event's type, in packet
+    /// order. A packet of the event's type itself is one block. The other entries stay.
+    ///
+    /// Each block is received at its own timestamp, (the packet's - its offset) modulo 2^32, on the
+    /// table that the block before it left. Only the last, the primary, can count as marked. Blocks
+    /// of other types are passed over. A block refused with 17, 7, 8, 9, 10 or 11 changes its entry
+    /// only.
+    ///
+    /// Refusals of the whole packet: 16, 1 to 6, 18, 19, 15; then table and entries stay. A quarter
+    /// as many entries as the packet has bytes are always enough.
+    ///
+    /// ```
+    /// use twimbor::{Entry, OlderReport, REDUNDANT_BYTES, Refusal, Report, Table, Taken};
+    ///
+    /// let key = Report { payload_type: 101, ssrc: 7, code: 5, duration: 400, ..Report::default() };
+    /// let next = Report { timestamp: 1000, code: 6, ..key };
+    /// let mut packet = [0; REDUNDANT_BYTES];
+    /// let bytes = next.write_redundant(96, &[OlderReport::from(key)], &mut packet)?;
+    ///
+    /// let mut table = Table::open_redundant(101, 96, 7, 0)?;
+    /// let mut entries = [Entry::default(); 4];
+    /// assert_eq!(table.receive_redundant(&packet[..bytes], &mut entries), Ok(2));
+    /// assert_eq!([entries[0].answer(), entries[1].answer()], [Ok(Taken::New); 2]);
+    /// assert_eq!(table.events()?.iter().map(|event| event.key()).collect::<String>(), "56");
+    /// # Ok::<(), Refusal>(())
+    /// ```
+    pub fn receive_redundant(
+        &mut self,
+        packet: &[u8],
+        entries: &mut [Entry],
+    ) -> Result<usize, Refusal> {
+        let (keys, heard) = (&mut self.keys, &mut self.heard);
+        let got = sys::receive_redundant_columns(self.head, keys, heard, packet, entries);
+        self.head.count = got.count;
+        unless_refused(got.refusal, got.blocks)
     }
 
     /// All events, by start, then code. Refusal: 16. Needs the feature `alloc`.

@@ -1,8 +1,9 @@
 //! The rows of document 01, "Both sides of each edge", those of packed packets, of segments of any
-//! size and of whole captures, and the words of the refusals.
+//! size, of whole captures and of redundant packets, and the words of the refusals.
 
 use std::collections::HashSet;
-use twimbor::{Captured, Event, Plan, Refusal, Report, Segment, Table, Taken, UnknownRefusal};
+use twimbor::{Block, Blocks, Captured, Entry, Event, OlderReport, Plan, Refusal, Report};
+use twimbor::{Segment, Table, Taken, UnknownRefusal};
 
 const P7: Plan = Plan {
     payload_type: 101,
@@ -284,6 +285,311 @@ fn a_capture_goes_on_from_the_bytes_used() {
     }
 }
 
+/// A packet of the redundant type 96, 48 units after P7's start, with this payload.
+fn redundant(payload: &[u8]) -> Vec<u8> {
+    let header = [0x80, 96, 0, 1, 0, 0, 0, 0x20, 0x11, 0x22, 0x33, 0x44];
+    [&header, payload].concat()
+}
+
+/// P7's table, opened for both types.
+fn p7_table() -> Table {
+    Table::open_redundant(P7.payload_type, 96, P7.ssrc, P7.start).unwrap()
+}
+
+/// The lengths of a packet's blocks, or the refusal's number; the receiver agrees about that.
+fn lengths(packet: &[u8]) -> Result<Vec<usize>, u8> {
+    let blocks = Blocks::of(packet).map_err(Refusal::number);
+    let received = p7_table().receive_redundant(packet, &mut [Entry::default(); 4]);
+    assert_eq!(received.err().map(Refusal::number), blocks.as_ref().err().copied());
+    blocks.map(|blocks| blocks.map(|block| block.data.len()).collect())
+}
+
+#[test]
+fn block_headers_end_with_one_byte_inside_the_payload() {
+    // An older block of no bytes, and the last header.
+    let (older, last) = ([0xE5, 0, 0, 0], [0x65]);
+    let two = [older, older].concat();
+    for (payload, blocks) in
+        [(&last[..], 1), (&[&older[..], &last].concat(), 2), (&[&two[..], &last].concat(), 3)]
+    {
+        assert_eq!(lengths(&redundant(payload)), Ok(vec![0; blocks]));
+        for cut in 0..payload.len() {
+            assert_eq!(lengths(&redundant(&payload[..cut])), Err(18));
+        }
+    }
+    // Padding is not payload: of one byte, it takes the last header away.
+    let padded = |payload: &[u8]| [&[0xA0], &redundant(payload)[1..]].concat();
+    assert_eq!(lengths(&padded(&[0xE5, 0, 0, 0, 1])), Err(18));
+    assert_eq!(lengths(&padded(&[0xE5, 0, 0, 0, 0x65, 1])), Ok(vec![0, 0]));
+}
+
+#[test]
+fn block_lengths_come_to_the_data_at_most() {
+    let one = [0xE5, 0, 0, 4, 0x65];
+    let two = [0xE5, 0, 0, 4, 0xE5, 0, 0, 3, 0x65];
+    let with = |headers: &[u8], data: usize| redundant(&[headers, &vec![1; data]].concat());
+    assert_eq!(lengths(&with(&one, 3)), Err(19));
+    assert_eq!(lengths(&with(&one, 4)), Ok(vec![4, 0]));
+    assert_eq!(lengths(&with(&one, 5)), Ok(vec![4, 1]));
+    assert_eq!(lengths(&with(&two, 6)), Err(19));
+    assert_eq!(lengths(&with(&two, 7)), Ok(vec![4, 3, 0]));
+    // Padding is not data.
+    let padded = |data: usize| [&[0xA0], &with(&one, data + 1)[1..]].concat();
+    assert_eq!(lengths(&padded(3)), Err(19));
+    assert_eq!(lengths(&padded(4)), Ok(vec![4, 0]));
+    // 10 bits of length.
+    assert_eq!(lengths(&with(&[0xE5, 0, 3, 0xFF, 0x65], 1_022)), Err(19));
+    assert_eq!(lengths(&with(&[0xE5, 0, 3, 0xFF, 0x65], 1_023)), Ok(vec![1_023, 0]));
+    assert_eq!(lengths(&with(&[0xE5, 0, 4, 0x00, 0x65], 1_023)), Ok(vec![0, 1_023]));
+}
+
+#[test]
+fn offsets_of_blocks_end_at_16383() {
+    let data = [5, 10, 1, 144, 5, 10, 1, 144];
+    for ([high, low], offset) in
+        [([0, 0], 0), ([0, 4], 1), ([0xFF, 0xF8], 16_382), ([0xFF, 0xFC], 16_383)]
+    {
+        let packet = redundant(&[&[0xE5, high, low, 4, 0x65][..], &data].concat());
+        let block = Blocks::of(&packet).unwrap().next().unwrap();
+        let older = Block { payload_type: 101, offset, primary: false, data: &data[..4] };
+        assert_eq!(block, older);
+        assert_eq!(block.timestamp(0x20), 0x20_u32.wrapping_sub(offset.into()));
+        // On both sides of the origin.
+        for (before, answer) in [(0, Ok(Taken::New)), (1, Err(Refusal::OffsetTooLarge))] {
+            let origin = block.timestamp(0x20).wrapping_add(before);
+            let mut table = Table::open_redundant(101, 96, P7.ssrc, origin).unwrap();
+            let mut entries = [Entry::default(); 2];
+            assert_eq!(table.receive_redundant(&packet, &mut entries), Ok(2));
+            assert_eq!(entries[0].answer(), answer);
+        }
+    }
+}
+
+#[test]
+fn a_packet_needs_an_entry_for_each_block_of_the_events_type() {
+    let plain = P7.packets().unwrap().next().unwrap();
+    let three = [0xE5, 0, 0, 4, 0xE0, 0, 0, 0, 0x65, 5, 10, 1, 144, 6, 10, 1, 144];
+    let other_types = [0xE0, 0, 0, 1, 0x07, 1, 2, 3];
+    let stays = Entry::from(0xABCD);
+    for (packet, blocks) in
+        [(plain.to_vec(), 1), (redundant(&three), 2), (redundant(&other_types), 0)]
+    {
+        let mut entries = [stays; 4];
+        if blocks > 0 {
+            let (mut table, few) = (p7_table(), &mut entries[..blocks - 1]);
+            assert_eq!(table.receive_redundant(&packet, few), Err(Refusal::ListTooSmall));
+            assert_eq!((table, entries), (p7_table(), [stays; 4]));
+        }
+        let mut table = p7_table();
+        assert_eq!(table.receive_redundant(&packet, &mut entries[..blocks]), Ok(blocks));
+        assert_eq!(table.segments().len(), blocks);
+        let written = entries.iter().take_while(|&&entry| entry != stays);
+        assert!(written.map(Entry::answer).eq(vec![Ok(Taken::New); blocks]));
+    }
+    // All blocks that 1,500 bytes can have.
+    let payload = [&[0xE5, 0, 0, 0].repeat(371)[..], &[0x65, 1, 2, 3]].concat();
+    let packet = redundant(&payload);
+    assert_eq!(packet.len(), 1_500);
+    let mut entries = [stays; 372];
+    assert_eq!(p7_table().receive_redundant(&packet, &mut entries), Ok(372));
+}
+
+#[test]
+fn a_redundant_packet_is_refused_in_this_order() {
+    let none = redundant(&[]);
+    let too_long = redundant(&[0xE5, 0, 0, 4, 0x65]);
+    let two_sevens = redundant(&[0xE5, 0, 0, 0, 0x65]);
+    let set = |packet: &[u8], place: usize, byte| {
+        let mut packet = packet.to_vec();
+        packet[place] = byte;
+        packet
+    };
+    for (packet, room, refusal) in [
+        (set(&none, 1, 95), 0, Err(5)),
+        (set(&none, 11, 0x45), 0, Err(6)),
+        (none, 0, Err(18)),
+        (too_long, 0, Err(19)),
+        (two_sevens.clone(), 1, Err(15)),
+        (two_sevens.clone(), 2, Ok(2)),
+    ] {
+        let mut table = p7_table();
+        let received = table.receive_redundant(&packet, &mut [Entry::default(); 2][..room]);
+        assert_eq!(received.map_err(Refusal::number), refusal);
+        assert_eq!(table, p7_table());
+        // 01's receiver knows the event's type alone.
+        assert_eq!(table.receive(&packet), Err(Refusal::OtherPayloadType));
+        // A table of the first opening has it alone, whatever else it says.
+        let mut first = Table::open(P7.payload_type, P7.ssrc, P7.start).unwrap();
+        for redundant_type in [0, 96, 101, 200] {
+            first.head.redundant_type = redundant_type;
+            let received = first.receive_redundant(&packet, &mut [Entry::default(); 2]);
+            assert_eq!(received, Err(Refusal::OtherPayloadType));
+        }
+    }
+}
+
+#[test]
+fn a_refused_block_stops_none_and_only_the_primary_is_marked() {
+    let mut table = p7_table();
+    let headers = [0xE5, 0, 0xC0, 4, 0xE5, 0, 0, 3, 0xE5, 0, 0, 8, 0xE5, 0, 0, 4, 0xE5, 0, 0, 4];
+    let data = [5, 10, 1, 144, 1, 2, 3, 1, 0, 0, 1, 1, 0, 0, 1, 16, 0, 0, 1, 5, 0, 0, 0];
+    let mut packet = redundant(&[&headers[..], &[0x65], &data, &[6, 10, 0, 9]].concat());
+    packet[1] |= 0x80;
+    let mut entries = [Entry::default(); 6];
+    assert_eq!(table.receive_redundant(&packet, &mut entries), Ok(6));
+    let (new, second) = (0x100, 0x1_0100); // the second one is looked for among one
+    assert_eq!(entries.map(|entry| entry.number()), [new, 7, 17, 8, 9, second]);
+    let first = Segment { code: 5, volume: 10, duration: 400, ..Segment::default() };
+    let last = Segment { offset: 48, code: 6, duration: 9, marked: true, ..first };
+    assert!(table.segments().eq([first, last]));
+
+    // With a primary of another type nothing is marked.
+    packet[12 + headers.len()] = 7;
+    let mut table = p7_table();
+    assert_eq!(table.receive_redundant(&packet, &mut entries), Ok(5));
+    assert!(table.segments().eq([first]));
+}
+
+#[test]
+fn a_full_table_refuses_a_block_and_takes_a_later_one() {
+    let segment = |offset| Segment { offset, code: 5, duration: 1, ..Segment::default() };
+    let held: Vec<_> = (0..128).map(segment).collect();
+    let mut table = Table::from_segments(101, P7.ssrc, P7.start, &held).unwrap();
+    (table.head.both_types, table.head.redundant_type) = (1, 96);
+    let packet = redundant(&[0xE5, 0, 0xC0, 4, 0x65, 6, 10, 0, 9, 5, 10, 0, 9]);
+    let mut entries = [Entry::default(); 2];
+    assert_eq!(table.receive_redundant(&packet, &mut entries), Ok(2));
+    assert_eq!(entries.map(|entry| entry.answer()), [Err(Refusal::TableFull), Ok(Taken::Known)]);
+    assert_eq!(entries.map(|entry| entry.probes()), [8, 7]);
+    assert_eq!(table.segments().nth(48), Some(Segment { duration: 9, ..segment(48) }));
+}
+
+/// P7's report, 48 units later, and two older ones.
+const REPORT: Report = Report {
+    marker: true,
+    payload_type: 101,
+    sequence: 7,
+    timestamp: 0x20,
+    ssrc: 0x1122_3344,
+    code: 5,
+    ended: false,
+    volume: 10,
+    duration: 400,
+};
+const OLDER: [OlderReport; 2] = [
+    OlderReport { timestamp: 0xFFFF_C021, code: 15, ended: true, volume: 63, duration: 65_535 },
+    OlderReport { timestamp: 0xFFFF_FFF0, code: 0, ended: false, volume: 0, duration: 1 },
+];
+
+#[test]
+fn redundant_packets_have_these_bytes() {
+    let header = "80 E0 00 07 00 00 00 20 11 22 33 44 ";
+    for (older, rest) in [
+        (&OLDER[..0], "65 05 0A 01 90"),
+        (&OLDER[..1], "E5 FF FC 04 65 0F BF FF FF 05 0A 01 90"),
+        (&OLDER[1..], "E5 00 C0 04 65 00 00 00 01 05 0A 01 90"),
+        (&OLDER[..], "E5 FF FC 04 E5 00 C0 04 65 0F BF FF FF 00 00 00 01 05 0A 01 90"),
+    ] {
+        let mut output = [0xEE; 40];
+        let bytes = 17 + 8 * older.len();
+        assert_eq!(REPORT.write_redundant(96, older, &mut output), Ok(bytes));
+        let hex: Vec<_> = output[..bytes].iter().map(|byte| format!("{byte:02X}")).collect();
+        assert_eq!(hex.join(" "), format!("{header}{rest}"));
+        assert!(output[bytes..].iter().all(|&byte| byte == 0xEE));
+        // 14 with one byte fewer than that.
+        let mut output = [0xEE; 40];
+        let written = REPORT.write_redundant(96, older, &mut output[..bytes - 1]);
+        assert_eq!((written, output), (Err(Refusal::OutputTooSmall), [0xEE; 40]));
+    }
+}
+
+#[test]
+fn redundant_packets_are_written_within_these_ranges() {
+    let write = |report: Report, redundant_type: u32, older: &[OlderReport]| {
+        let written = report.write_redundant(redundant_type, older, &mut [0; 33]);
+        written.map_err(Refusal::number)
+    };
+    assert_eq!(write(REPORT, 127, &OLDER), Ok(33));
+    for redundant_type in [101, 128, 101 + 256, u32::MAX] {
+        assert_eq!(write(REPORT, redundant_type, &OLDER), Err(12));
+    }
+    assert_eq!(REPORT.write_redundant(-1, &OLDER, &mut [0; 33]), Err(Refusal::OutOfRange));
+    let third = [OLDER[0], OLDER[1], OLDER[1]];
+    assert_eq!(write(REPORT, 96, &third), Err(12));
+    let [first, second] = OLDER;
+    for timestamp in [0xFFFF_C020, 0x21, 0x8000_0020] {
+        assert_eq!(write(REPORT, 96, &[OlderReport { timestamp, ..first }]), Err(12));
+        assert_eq!(write(REPORT, 96, &[first, OlderReport { timestamp, ..first }]), Err(12));
+    }
+    for wrong in [
+        OlderReport { code: 16, ..second },
+        OlderReport { volume: 64, ..second },
+        OlderReport { duration: 0, ..second },
+        OlderReport { duration: 65_536, ..second },
+    ] {
+        assert_eq!(write(REPORT, 96, &[wrong]), Err(12));
+        assert_eq!(write(REPORT, 96, &[first, wrong]), Err(12));
+        let OlderReport { code, volume, duration, .. } = wrong;
+        assert_eq!(write(Report { code, volume, duration, ..REPORT }, 96, &[]), Err(12));
+        // 12 comes before 14.
+        assert_eq!(REPORT.write_redundant(96, &[wrong], &mut []), Err(Refusal::OutOfRange));
+    }
+}
+
+#[test]
+fn a_table_for_both_types_has_two() {
+    for (payload_type, redundant_type, is_opened) in [
+        (0, 127, true),
+        (127, 0, true),
+        (127, 128, false),
+        (128, 127, false),
+        (101, 101, false),
+        (101, 101 + 256, false),
+    ] {
+        let opened = Table::open_redundant(payload_type, redundant_type, 7, 0);
+        assert_eq!(opened.as_ref().err(), (!is_opened).then_some(&Refusal::OutOfRange));
+        assert!(
+            opened.is_ok_and(|table| table.is_valid() && table.head.both_types == 1) == is_opened
+        );
+    }
+    for (redundant_type, is_valid) in [(0, true), (127, true), (128, false), (101, false)] {
+        for both_types in [0, 1, 2, 255] {
+            let mut table = p7_table();
+            (table.head.both_types, table.head.redundant_type) = (both_types, redundant_type);
+            assert_eq!(table.is_valid(), is_valid || both_types == 0);
+            let received = table.receive_redundant(&[], &mut []).map_err(Refusal::number);
+            assert_eq!(received, Err(if table.is_valid() { 1 } else { 16 }));
+        }
+    }
+}
+
+/// RFC 4733's Figure 5: tones are the primary, and events one redundant layer. The data follow the
+/// headers, displaced by one byte.
+#[test]
+fn figure_5_has_an_event_before_a_tone() {
+    let packet = [
+        0x80, 102, 0, 18, 0, 0, 0x32, 0x00, 0, 0x52, 0x34, 0xA8, // timestamp 12,800
+        0xE4, 0x19, 0x00, 0x04, 0x65, // type 100, offset 1,600, length 4; type 101
+        0x01, 0x94, 0x06, 0xE0, // key 1, E, volume 20, duration 1,760
+        0x00, 0x14, 0x00, 0xA0, 0x02, 0xB9, 0x04, 0xB9, // 160 units of 697 and 1,209 Hz
+    ];
+    let event = Block { payload_type: 100, offset: 1_600, primary: false, data: &packet[17..21] };
+    let tone = Block { payload_type: 101, offset: 0, primary: true, data: &packet[21..29] };
+    assert!(Blocks::of(&packet).unwrap().eq([event, tone]));
+    let mut table = Table::open_redundant(100, 102, 0x5234A8, 0).unwrap();
+    let mut entries = [Entry::default()];
+    assert_eq!(table.receive_redundant(&packet, &mut entries), Ok(1));
+    assert_eq!(entries[0].answer(), Ok(Taken::New));
+    let (code, start, length, volume) = (1, 11_200, 1_760, 20);
+    let event = Event { code, start, length, volume, began: false, ended: true };
+    assert_eq!(table.events().unwrap(), [event]);
+
+    // For a table whose events are of the tones' type, its eight bytes are two reports.
+    let mut table = Table::open_redundant(101, 102, 0x5234A8, 0).unwrap();
+    assert_eq!(table.receive_redundant(&packet, &mut entries), Ok(1));
+    assert_eq!(entries[0].answer(), Err(Refusal::Packed));
+}
+
 #[test]
 fn volume_ends_at_63() {
     let report = Report { volume: 63, duration: 1, ..Report::default() };
@@ -294,10 +600,10 @@ fn volume_ends_at_63() {
 
 #[test]
 fn each_refusal_has_its_number_and_words() {
-    assert!(Refusal::ALL.map(Refusal::number).into_iter().eq(1..=17));
+    assert!(Refusal::ALL.map(Refusal::number).into_iter().eq(1..=19));
     let words = Refusal::ALL.map(|refusal| refusal.to_string());
-    assert_eq!(HashSet::from(words).len(), 17);
-    assert!(Refusal::ALL.is_sorted() && Refusal::Packed < Refusal::Unknown);
+    assert_eq!(HashSet::from(words).len(), 19);
+    assert!(Refusal::ALL.is_sorted() && Refusal::BlocksTooLong < Refusal::Unknown);
     for number in 0..=255 {
         let known = Refusal::ALL.into_iter().find(|refusal| refusal.number() == number);
         assert_eq!(Refusal::try_from(number), known.ok_or(UnknownRefusal(number)));

@@ -5,8 +5,12 @@
 use std::fs;
 use std::mem::{offset_of, size_of};
 use std::process::Command;
-use twimbor::sys::{Captured, CountResult, EventResult, Listed, Opened, ReadResult, Received};
-use twimbor::{Event, Head, LONGEST_EVENT, PACKET_BYTES, PLACES, Plan, Refusal, Report, Table};
+use twimbor::sys::{BlockStepResult, BlocksReceived, Captured, CountResult, Cursor, EventResult};
+use twimbor::sys::{Listed, Opened, ReadResult, Received, WalkStarted};
+use twimbor::{
+    Entry, Event, Head, LONGEST_EVENT, OLDER_REPORTS, OlderReport, PACKET_BYTES, PLACES,
+};
+use twimbor::{Plan, REDUNDANT_BYTES, Refusal, Report, Table, Taken};
 
 const HEADER: &str = concat!(env!("CARGO_MANIFEST_DIR"), "/../include/twimbor.h");
 
@@ -54,7 +58,17 @@ fn structs_and_numbers_are_the_headers() {
     layout!(file, Plan as "twimbor_plan" {
         payload_type, ssrc, sequence, start, code, volume, length, period, segment_size
     });
-    layout!(file, Head as "twimbor_head" { payload_type, ssrc, origin, count });
+    layout!(file, OlderReport as "twimbor_older_report" {
+        timestamp, code, ended, volume, duration
+    });
+    layout!(file, Cursor as "twimbor_cursor" { header, body, end });
+    layout!(file, WalkStarted as "twimbor_walk_started" { cursor, refusal });
+    layout!(file, BlockStepResult as "twimbor_block_step_result" {
+        after, start, end, offset, payload_type, primary, found
+    });
+    layout!(file, Head as "twimbor_head" {
+        payload_type, both_types, redundant_type, ssrc, origin, count
+    });
     layout!(file, Table as "twimbor_table" { head, keys, heard });
     layout!(file, Event as "twimbor_event" { code, start, length, volume, began, ended });
     layout!(file, ReadResult as "twimbor_read_result" { report, refusal });
@@ -64,6 +78,7 @@ fn structs_and_numbers_are_the_headers() {
     layout!(file, Captured as "twimbor_captured" {
         refusal, count, used, taken, refused, packed
     });
+    layout!(file, BlocksReceived as "twimbor_blocks_received" { blocks, count, refusal });
     layout!(file, EventResult as "twimbor_event_result" { event, refusal });
     layout!(file, Listed as "twimbor_listed" { refusal, events });
     for refusal in Refusal::ALL {
@@ -72,6 +87,9 @@ fn structs_and_numbers_are_the_headers() {
     file += &assertion("TWIMBOR_PLACES", PLACES);
     file += &assertion("TWIMBOR_LONGEST_EVENT", LONGEST_EVENT as usize);
     file += &assertion("TWIMBOR_PACKET_BYTES", PACKET_BYTES);
+    file += &assertion("TWIMBOR_OLDER_REPORTS", OLDER_REPORTS);
+    file += &assertion("TWIMBOR_REDUNDANT_BYTES", REDUNDANT_BYTES);
+    file += &assertion("sizeof(uint32_t)", size_of::<Entry>());
     let path = concat!(env!("CARGO_TARGET_TMPDIR"), "/layout.c");
     fs::write(path, file).unwrap();
     compile(&["-fsyntax-only", path]);
@@ -99,6 +117,36 @@ fn version_words_and_keys_are_the_headers() {
         expected += &format!("{}\n", Refusal::try_from(number).unwrap_or(Refusal::Unknown));
     }
     expected.extend((0..=255).map(|code| Event { code, ..Event::default() }.key()));
+    let printed = Command::new(program).output().unwrap().stdout;
+    assert_eq!(String::from_utf8_lossy(&printed), expected);
+}
+
+/// What the header's functions say of an entry, and what this crate says.
+#[test]
+fn entries_are_read_as_by_the_header() {
+    let numbers = [0, 256, 7, 11 | 8 << 16, 1 << 16, 256 | 7 << 16, 17, 255, u32::MAX, 0x1234_5678];
+    let mut calls = String::new();
+    let mut expected = String::new();
+    for number in numbers {
+        calls += &format!("    say({number}u);\n");
+        let (refusal, is_new) = (number as u8, number & 256 != 0);
+        let entry = Entry::from(number);
+        expected += &format!("{refusal} {} {}\n", u8::from(is_new), entry.probes());
+        let taken = if is_new { Taken::New } else { Taken::Known };
+        let known = Refusal::try_from(refusal).unwrap_or(Refusal::Unknown);
+        assert_eq!(entry.answer(), if refusal == 0 { Ok(taken) } else { Err(known) });
+        assert_eq!(entry.number(), number);
+    }
+    let say = "static void say(uint32_t entry)
+{
+    printf(\"%d %d \", twimbor_entry_refusal(entry), twimbor_entry_is_new(entry));
+    printf(\"%u\\n\", (unsigned)twimbor_entry_probes(entry));
+}";
+    let path = concat!(env!("CARGO_TARGET_TMPDIR"), "/entries.c");
+    let program = concat!(env!("CARGO_TARGET_TMPDIR"), "/entries");
+    let main = format!("int main(void)\n{{\n{calls}}}");
+    fs::write(path, format!("#include \"{HEADER}\"\n#include <stdio.h>\n{say}\n{main}\n")).unwrap();
+    compile(&[path, "-o", program]);
     let printed = Command::new(program).output().unwrap().stdout;
     assert_eq!(String::from_utf8_lossy(&printed), expected);
 }

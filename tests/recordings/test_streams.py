@@ -48,6 +48,55 @@ class Streams(unittest.TestCase):
         ):
             self.assertEqual(streams.is_event_like(packet), expected, packet.hex())
 
+    def test_reports_in_blocks(self):
+        report, sound = b"\x05\x0a\x01\x90", bytes(160)
+        older, fewer, pcmu = b"\xe5\x0f\xa0\x04", b"\xe5\x0f\xa0\x03", b"\x80\x02\x80\xa0"
+        for payload, expected in (
+            (older + older + b"\x65" + 3 * report, True),
+            (b"\x65" + report, True),
+            (older + b"\x00" + report + sound, True),
+            (pcmu + b"\x65" + sound + report, True),
+            (pcmu + b"\x00" + sound + sound, False),
+            (b"\x22" + report, False),  # RFC 3551 gives the type, 34, to video
+            (fewer + b"\x65" + report[:3] + report[:3], False),
+            (fewer + b"\x65" + report[:3] + b"\x05\x4a\x01\x90", False),  # reserved bit
+            (older + b"\x65" + report[:3], False),  # lengths above the data
+            (older + b"\x65" + report, True),
+            (older + older, False),  # no last header
+            (older[:3], False),
+            (b"", False),
+        ):
+            self.assertEqual(streams.has_report_in_block(b"\x80\x64" + bytes(10) + payload), expected, payload.hex())
+        padded = b"\xa1\x64" + bytes(14) + b"\x65" + report + b"\x00\x02"
+        self.assertEqual(streams.blocks_of(streams.payload_of(padded)), [(0x65, report)])
+
+    def test_redundant_packets_are_told_of(self):
+        report, ssrc = b"\x05\x8a\x01\x90", struct.pack(">I", 7)
+        header = [b"\x80" + bytes([kind]) + bytes(6) + ssrc for kind in (101, 100)]
+        plain, redundant = header[0] + report, header[1] + b"\xe5\x0f\xa0\x04\x65" + report + report
+        sound = header[1] + b"\x80\x02\x80\xa0\x00" + bytes(320)  # of the same payload type, with no report in it
+        path, description = TEMPORARY / "redundant.pcap", TEMPORARY / "redundant.sdp"
+        words = "redundant packets (RFC 2198) of payload type 100, which this program does not list: 2 left out\n"
+        events_only = "a=rtpmap:101 telephone-event/8000\n"
+        for packets, text, told in (
+            ([plain, redundant, redundant], None, words),
+            ([plain, redundant, redundant, sound, sound], None, ""),
+            ([plain, redundant, redundant, sound, sound], events_only, ""),
+            ([plain, redundant, redundant, sound, sound], events_only + "a=rtpmap:100 RED/8000/1\na=fmtp:100 101/101\n", words),
+            ([plain, redundant, redundant], events_only, words),
+            ([plain, sound], events_only + "a=rtpmap:100 red/8000\n", ""),
+        ):
+            path.write_bytes(pcap(map(ipv4_packet, packets), 101))
+            description.write_text(text or "")
+            status, out, err = run(*events(path, *(["--sdp", description] if text else [])))
+            self.assertEqual((status, out.decode().count("1 event from 1 report"), err), (0, 1, told))
+        path.write_bytes(pcap(map(ipv4_packet, [redundant, redundant]), 101))
+        status, out, err = run(*events(path))
+        self.assertEqual((status, out), (1, b""))
+        self.assertTrue(err.startswith(words))
+        self.assertIn("no stream of telephone events", err)
+        self.assertEqual(json.loads(run(*events(path, "--json"))[1])["redundant"], 2)
+
     def test_what_is_a_stream_of_events(self):
         packet = paper.frames_of((DATA / "shopkeeper.rtp").read_bytes())[0][0]
 
@@ -86,6 +135,8 @@ class Streams(unittest.TestCase):
             (bytes(range(256)), {}),
         ):
             self.assertEqual(sdp.clock_rates(text), expected)
+        text = b"a=rtpmap:100 red/8000/1\na=rtpmap:101 telephone-event/8000\na=rtpmap:102 redundant/8000\na=rtpmap:63 RED/48000/2\n"
+        self.assertEqual(sdp.clock_rates(text, b"red"), {100: {8000}, 63: {48000}})
 
     def test_refusals_in_words(self):
         many = self.datagrams("many")

@@ -1,4 +1,5 @@
 """The commands of tools/captures: each prints, and returns 1 if something is wrong with a file."""
+import collections
 import pathlib
 import sys
 
@@ -22,7 +23,8 @@ def say(*sentences):
 
 
 def print_events(given):
-    rates = rates_of(given) if given.sdp else {}
+    description = pathlib.Path(given.sdp).read_bytes() if given.sdp else b""
+    rates = rates_of(given, description) if given.sdp else {}
     tally = Tally()
     with opened(given.recording) as file:
         found = streams_of(datagrams_of(file, tally))
@@ -32,12 +34,15 @@ def print_events(given):
     unnamed = sorted({stream.name.payload_type for stream in found if stream.is_of_events and stream not in chosen})
     if unnamed:
         say(f"payload types that look like telephone events, but are left out as the SDP does not name them: {unnamed}")
+    redundant = redundant_in([stream for stream in found if stream not in chosen], clock_rates(description, b"red"))
+    for payload_type, packets in sorted(redundant.items()):
+        say(f"redundant packets (RFC 2198) of payload type {payload_type}, which this program does not list: {packets} left out")
     reports = []
     for stream, capture in zip(chosen, captures):
         rate = given.rate or rates.get(stream.name.payload_type)
         reports.append(report(stream, rate, *listed(given.program, stream.session, capture)))
     if given.json:
-        print(as_json(given.recording, tally, reports))
+        print(as_json(given.recording, tally, redundant, reports))
     else:
         print(as_table(reports), end="")
     if not chosen:
@@ -45,15 +50,24 @@ def print_events(given):
     return int(not chosen or tally.damage is not None)
 
 
-def rates_of(given):
+def rates_of(given, description):
     """The payload types that the SDP gives to telephone events, each with its clock rate: None where it gives more than one."""
-    types = clock_rates(pathlib.Path(given.sdp).read_bytes())
+    types = clock_rates(description)
     if not types:
         raise ValueError(f"{given.sdp}: it has no line  a=rtpmap:N telephone-event/RATE")
     for payload_type, rates in types.items():
         if len(rates) > 1 and not given.rate:
             say(f"the SDP gives payload type {payload_type} the clock rates {sorted(rates)}: say with --rate N which is meant")
     return {payload_type: min(rates) if len(rates) == 1 else None for payload_type, rates in types.items()}
+
+
+def redundant_in(streams, named):
+    """How many redundant packets have reports in them, by payload type: one that the SDP names, or that is found by its packets' looks."""
+    packets = collections.Counter()
+    for stream in streams:
+        if stream.is_redundant or stream.name.payload_type in named and stream.redundant:
+            packets[stream.name.payload_type] += stream.redundant
+    return packets
 
 
 def why_none(given, rates, found, tally):

@@ -44,7 +44,7 @@ def report(stream, clock_rate, events, answers):
     }
 
 
-def as_json(recording, tally, reports):
+def as_json(recording, tally, redundant, reports):
     found = {
         "recording": recording,
         "packets": tally.datagrams,
@@ -52,6 +52,7 @@ def as_json(recording, tally, reports):
         "partial": tally.partial,
         "undecoded": tally.undecoded,
         "unknown_link": sum(tally.unknown_links.values()),
+        "redundant": sum(redundant.values()),
         "damaged": tally.damage,
         "streams": reports,
     }

@@ -27,7 +27,7 @@ class Lowest:
 
 class Stream:
     def __init__(self, name):
-        self.name, self.packets, self.event_like = name, 0, 0
+        self.name, self.packets, self.event_like, self.redundant = name, 0, 0, 0
         self.lowest, self.lowest_event = Lowest(), Lowest()
 
     def add(self, packet):
@@ -37,6 +37,11 @@ class Stream:
         if is_event_like(packet):
             self.event_like += 1
             self.lowest_event.add(timestamp)
+        self.redundant += has_report_in_block(packet)
+
+    @property
+    def is_redundant(self):
+        return self.name.payload_type >= FIRST_DYNAMIC and 2 * self.redundant > self.packets
 
     @property
     def is_of_events(self):
@@ -66,10 +71,32 @@ def payload_of(packet):
     return packet[start:end]
 
 
-def is_event_like(packet):
-    """Its payload has the size of one report, with the reserved bit clear."""
-    payload = payload_of(packet)
+def is_report(payload):
+    """It has the size of one report, with the reserved bit clear."""
     return len(payload) == 4 and not payload[1] & 0x40
+
+
+def is_event_like(packet):
+    return is_report(payload_of(packet))
+
+
+def blocks_of(payload):
+    """The blocks of a redundant packet (RFC 2198), each with its payload type; none if it cannot be one."""
+    older, at = [], 0
+    while at + 4 < len(payload) and payload[at] & 0x80:
+        older.append((payload[at] & 0x7F, int.from_bytes(payload[at + 2 : at + 4], "big") & 0x3FF))
+        at += 4
+    if at == len(payload) or payload[at] & 0x80:
+        return []
+    blocks, primary, at = [], payload[at], at + 1
+    for payload_type, size in older:
+        blocks.append((payload_type, payload[at : at + size]))
+        at += size
+    return blocks + [(primary, payload[at:])] if at <= len(payload) else []
+
+
+def has_report_in_block(packet):
+    return any(payload_type >= FIRST_DYNAMIC and is_report(block) for payload_type, block in blocks_of(payload_of(packet)))
 
 
 def streams_of(datagrams):

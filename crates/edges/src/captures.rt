@@ -1,5 +1,4 @@
 // Whole captures: cut at each place, with each kind of frame, into tables that are full or fail the tests.
-use super::show;
 use super::tables::filled;
 use model::Table;
 

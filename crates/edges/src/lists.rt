@@ -1,5 +1,4 @@
 // Events of tables that no call made: rows P9 to P12 and others, each at event numbers on both sides of the count.
-use super::show;
 use super::tables::heard;
 use super::tables::key;
 use model::Event;

@@ -4,7 +4,6 @@ mod lists;
 mod packets;
 mod plans;
 mod probes;
-mod show;
 mod tables;
 
 fn main() {

@@ -1,5 +1,4 @@
 // Both sides of each edge of reading and writing packets.
-use super::show;
 use model::ReadAnswer;
 use model::Report;
 use model::WriteAnswer;
@@ -174,6 +173,10 @@ pub fn refusal_of(a: WriteAnswer) -> u8 {
     }
 }
 
+pub fn output(b: [u8; 17]) {
+    show::bytes(&b[0..17]);
+}
+
 fn written(r: Report, room: usize) {
     if 17 < room {
         return;
@@ -181,7 +184,7 @@ fn written(r: Report, room: usize) {
     let mut out = [0xEEu8; 17];
     let a = writer::write(r, &mut out[0..room]);
     show::answer(refusal_of(a));
-    show::output(out);
+    output(out);
 }
 
 fn write_row(i: usize) {

@@ -1,7 +1,7 @@
 // Both sides of each edge of the sender's plan.
+use super::packets::output;
 use super::packets::refusal_of;
 use super::packets::size;
-use super::show;
 use model::CountAnswer;
 use model::Plan;
 
@@ -165,7 +165,7 @@ fn written(p: Plan, k: u32, room: usize) {
     let mut out = [0xEEu8; 17];
     let a = plan::write_report(p, k, &mut out[0..room]);
     show::answer(refusal_of(a));
-    show::output(out);
+    output(out);
 }
 
 fn report_row(i: usize) {

@@ -1,5 +1,4 @@
 // How many segments a receiving call looks at, with each number of them held.
-use super::show;
 use super::tables::filled;
 use super::tables::packet_of;
 use super::tables::receive_bytes;

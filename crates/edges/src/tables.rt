@@ -1,6 +1,5 @@
 // Both sides of each edge of the receiving table.
 use super::packets::size;
-use super::show;
 use model::Received;
 use model::Report;
 use model::Table;

@@ -1,6 +1,6 @@
--- Along the calls of demand 3 every sent packet is taken, and nothing else is. None meets 11: each pair that is held is that
--- of one of the events' segments, of which there are at most 128.
-use Prim.Native.Nat.{ℕ, suc, _+_, _≤_}
+-- Along the reports of demand 3 every sent one and every copy is taken, and nothing else is. None meets 11: each pair that is held is
+-- that of one of the events' segments, of which there are at most 128.
+use Prim.Native.Nat.{ℕ, suc, _+_, _≤_, _<_}
 use mathlib.Core.Path.{_≡_, refl, sym, ap, _∙_}
 use mathlib.Core.Bool.{Bool, true, false, not, _&&_, false≢true}
 use mathlib.Core.List.{List, [], _∷_, List·Memᴰ·head, List·Memᴰ·tail, List·Memᴰ·cases-cons, List·Memᴰ·not-nil}
@@ -9,26 +9,25 @@ use native.Mathlib.Omega.{arith}
 use lib.Dec.{eqb}
 use lib.ListN.{length, length-append, length-map}
 use borrow.Author.Tests.{eqb-true}
-use Rattle.model.specs.declared.Report.{Report}
 use Rattle.model.specs.declared.Segment.{Segment}
 use Rattle.model.specs.declared.Table.{Table}
-use Rattle.model.specs.Packet.{packetOf, ssrc}
-use Rattle.model.specs.Plan.{cut, reports, reportAt}
+use Rattle.model.specs.Refusals.{none}
+use Rattle.model.specs.Plan.{cut}
 use Rattle.model.specs.Segments.{Derived}
 use Rattle.model.specs.Table.{held, holds, noRoom, put}
-use Rattle.model.specs.Receive.{heardIn, receiveRefusal, receive, refuses, arrivals}
-use Rattle.model.specs.Sizes.{Sent, planOf, segmentsInAll, Sizes, BytesFit, FitsTypes}
-use Rattle.model.specs.Demands.{Empty, Handed, sent, stranger, bytesOf, Admitted, packets, SentPacket}
+use Rattle.model.specs.Receive.{Arrival, heardBy, hearRefusal, hear, refuses}
+use Rattle.model.specs.Sizes.{Sent, planOf, segmentsInAll, Sizes, FitsTypes}
+use Rattle.model.specs.Demands.{Empty}
+use Rattle.model.specs.Redundancy.{takenOf, sentArrival, unmarked, SentReport, OneOf, FairReports}
 use Rattle.model.proofs.Order.{_≺_, Alike, alike-sym, alike-trans, ≺-trans, ≺-alike, alike-≺, ≺-not-alike, Rising, rises}
 use Rattle.model.proofs.Segments.{derived-put}
 use Rattle.model.proofs.Keeping.{keeps-alike}
-use Rattle.model.proofs.Packets.{packet-header, packet-payload, packet-fits}
 use Rattle.model.proofs.Tables.{held-length, put-new}
-use Rattle.model.proofs.Receives.{Taken, taken-if, refused-leaves, takes, taken-not-refused}
-use Rattle.model.proofs.Runs.{Reached, start, heard-from, step-taken, arrivals-refused, arrivals-taken}
+use Rattle.model.proofs.Receives.{taken-if, refused-leaves, takes, taken-not-refused}
+use Rattle.model.proofs.Runs.{PayloadFits, Reached, start, heard-from, step-taken}
 use Rattle.model.proofs.Plans.{Says}
 use Rattle.model.proofs.Recovered.{ApartFrom, apart-from, segmentsSent, allSent, in-all, all-rising}
-use Rattle.model.proofs.Sends.{plans-for, plan-ranges, said, said-says, said-before, sent-later, sent-bytes, sent-in-range, sent-report, heard-as-said}
+use Rattle.model.proofs.Sends.{plans-for, plan-ranges, said, said-says, said-before, sent-later, sent-passes, sent-payload-fits, heard-as-said}
 use Rattle.model.proofs.Basics.{Mem}
 
 -- FEWER PAIRS, FEWER SEGMENTS
@@ -71,7 +70,29 @@ length-all t (e ∷ es) =
     length-append (segmentsSent (planOf t) e) (allSent (planOf t) es)
     ∙ (λ i. (sym (ap length (sent-later t e)) ∙ length-map (cut (planOf t e)) _) i + length-all t es i)
 
--- ALONG THE CALLS
+-- COPIES
+
+-- a copy says what the report says, but for the mark
+pub record SaidBy (s r : Segment) : Type 0 where
+  pub offset : r .offset ≡ s .offset
+  pub code : r .code ≡ s .code
+  pub duration : r .duration ≡ s .duration
+  pub volume : r .volume ≡ s .volume
+  pub ended : r .ended ≡ s .ended
+  pub marked : r .marked ≡ true → s .marked ≡ true
+
+pub says-too : {g s r : Segment} → Says g s → SaidBy s r → Says g r
+says-too x y = record {
+  offset = y .offset ∙ x .offset;
+  code = y .code ∙ x .code;
+  some = omega (arith, x .some, y .duration);
+  duration = omega (arith, x .duration, y .duration);
+  volume = y .volume ∙ x .volume;
+  ended = λ e. let k = x .ended (sym (y .ended) ∙ e) in (k .0, y .duration ∙ k .1);
+  marked = λ e. x .marked (y .marked e);
+}
+
+-- ALONG THE REPORTS
 
 module _ (t : Table) (es : List Sent) (sizes : Sizes t es) (fits : FitsTypes t es []) where
   pub apart : ApartFrom 0 es
@@ -91,16 +112,36 @@ module _ (t : Table) (es : List Sent) (sizes : Sizes t es) (fits : FitsTypes t e
   pub along-empty : Empty t → Along [] t
   along-empty e = record { reached = start t e; type = refl; source = refl; told = λ r m. absurd (List·Memᴰ·not-nil m) }
 
-  pub told-sent : (e : Sent) (k : ℕ) → Mem e es → 1 ≤ k → k ≤ length (reports (planOf t e)) → ToldOf (said t e k)
-  told-sent e k m low high =
-      let q = said-says t e (sizes .ranges e m) k low high in
-      (q .0, in-all (planOf t) es e (q .0) m (q .1), q .2)
+  -- WHAT A SENT REPORT SAYS
 
-  -- from the table's origin a packet is heard as it was said
-  pub heard-sent : (e : Sent) (k : ℕ) → Mem e es → 1 ≤ k → k ≤ length (reports (planOf t e)) → heardIn t (bytesOf t (sent e k)) ≡ said t e k
-  heard-sent e k m low high =
-      let r = sizes .ranges e m in
-      ap (heardIn t) (sent-bytes t e r k low high) ∙ heard-as-said t e r k low high (fits .ssrc) (fits .origin) (sizes .near e m)
+  -- from the table's origin it is heard as it was said
+  pub heard-sent : (e : Sent) (k : ℕ) → OneOf es t e k → heardBy t (sentArrival t e k) ≡ said t e k
+  heard-sent e k o = heard-as-said t e (sizes .ranges e (o .0)) k (o .1) (o .2) (fits .origin) (sizes .near e (o .0))
+
+  -- and a copy as the same, but for the mark
+  copy-heard : (a : Arrival) → SaidBy (heardBy t a) (heardBy t (unmarked a))
+  unfolding heardBy
+  copy-heard a = record { offset = refl; code = refl; duration = refl; volume = refl; ended = refl; marked = λ e. absurd (false≢true e) }
+
+  pub said-by : (a : Arrival) (e : Sent) (k : ℕ) → OneOf es t e k → (a ≡ sentArrival t e k) ⊎ (a ≡ unmarked (sentArrival t e k))
+      → SaidBy (said t e k) (heardBy t a)
+  said-by a e k o (inl q) =
+      rw (q, heard-sent e k o) (record { offset = refl; code = refl; duration = refl; volume = refl; ended = refl; marked = λ x. x })
+  said-by a e k o (inr q) = rw (q, ← (heard-sent e k o)) (copy-heard (sentArrival t e k))
+
+  pub told-sent : (a : Arrival) → SentReport es t a → ToldOf (heardBy t a)
+  told-sent a s =
+      let o = s .2 in
+      let q = said-says t (s .0) (sizes .ranges (s .0) (o .0)) (s .1) (o .1) (o .2) in
+      (q .0, in-all (planOf t) es (s .0) (q .0) (o .0) (q .1), says-too (q .2) (said-by a (s .0) (s .1) o (s .3)))
+
+  sent-payload : (a : Arrival) (e : Sent) (k : ℕ) → (a ≡ sentArrival t e k) ⊎ (a ≡ unmarked (sentArrival t e k)) → a .payload ≡ sentArrival t e k .payload
+  sent-payload a e k (inl q) = ap (λ (x : Arrival). x .payload) q
+  sent-payload a e k (inr q) = ap (λ (x : Arrival). x .payload) q
+
+  pub sent-fits : (a : Arrival) → SentReport es t a → PayloadFits a
+  sent-fits a s =
+      rw (sent-payload a (s .0) (s .1) (s .3)) (sent-payload-fits t (s .0) (sizes .ranges (s .0) (s .2 .0)) (s .1) (s .2 .1) (s .2 .2))
 
   -- what would be held has its like among the segments of the events
   pairs-known : {rs l : List Segment} → Derived rs l → ((r : Segment) → Mem r rs → ToldOf r) → (x : Segment) → Mem x l
@@ -132,95 +173,77 @@ module _ (t : Table) (es : List Sent) (sizes : Sizes t es) (fits : FitsTypes t e
       go true e false f = absurd (omega (arith, few, put-new r (held u) f, long, eqb-true (u .head .count) 128 e, length-all t es, sizes .few))
       go false e c f = refl
 
-  module _ (rs : List Segment) (u : Table) (a : Along rs u) (e : Sent) (k : ℕ) (m : Mem e es) (low : 1 ≤ k) (high : k ≤ length (reports (planOf t e))) where
-    packet : List ℕ
-    packet = packetOf (reportAt (planOf t e) k)
+  -- A SENT REPORT IS TAKEN
 
-    heard : heardIn u packet ≡ said t e k
-    unfolding packet
-    heard = heard-from t u packet (a .reached .origin) ∙ heard-as-said t e (sizes .ranges e m) k low high (fits .ssrc) (fits .origin) (sizes .near e m)
+  module _ (rs : List Segment) (u : Table) (w : Along rs u) (a : Arrival) (s : SentReport es t a) where
+    heard : heardBy u a ≡ heardBy t a
+    heard = heard-from t u a (w .reached .origin)
 
-    packet-taken : Taken u packet
-    unfolding packet
-    packet-taken =
-        let r = sent-in-range t e (sizes .ranges e m) k low high in
-        let q = sent-report t e (sizes .ranges e m) k low high (fits .ssrc) in
-        record {
-          searched = record {
-            passes = a .reached .passes;
-            header = packet-header (reportAt (planOf t e) k) r;
-            type = ap (λ (x : Report). x .«payload_type») q ∙ sym (a .type);
-            source = ap (λ (x : Report). x .ssrc) q ∙ sym (a .source);
-            payload = packet-payload (reportAt (planOf t e) k) r;
-            near = rw heard (omega (arith, said-before t e (sizes .ranges e m) k low high, sizes .near e m));
-          };
-          room = rw heard (room-for rs u a (said t e k) (told-sent e k m low high));
-        }
+    near : heardBy u a .offset < 0x8000_0000
+    near =
+        let range = sizes .ranges (s .0) (s .2 .0) in
+        rw (heard, said-by a (s .0) (s .1) (s .2) (s .3) .offset)
+        (omega (arith, said-before t (s .0) range (s .1) (s .2 .1) (s .2 .2), sizes .near (s .0) (s .2 .0)))
 
-    pub sent-taken : receiveRefusal u (bytesOf t (sent e k)) ≡ 0
-    unfolding packet
-    sent-taken = rw (sent-bytes t e (sizes .ranges e m) k low high) (taken-if u packet packet-taken)
+    pub sent-taken : hearRefusal u a ≡ none
+    sent-taken = taken-if u a (record {
+      searched = record {
+        payload = rw (sent-payload a (s .0) (s .1) (s .3)) (sent-passes t (s .0) (sizes .ranges (s .0) (s .2 .0)) (s .1) (s .2 .1) (s .2 .2));
+        near = near;
+      };
+      room = rw heard (room-for rs u w (heardBy t a) (told-sent a s));
+    })
 
-    pub sent-fits : BytesFit (bytesOf t (sent e k))
-    sent-fits = rw (sent-bytes t e (sizes .ranges e m) k low high) (packet-fits (reportAt (planOf t e) k) (sent-in-range t e (sizes .ranges e m) k low high))
-
-    pub along-sent : Along (said t e k ∷ rs) (receive u (bytesOf t (sent e k)) .table)
+    pub along-sent : Along (heardBy t a ∷ rs) (hear u a .table)
     along-sent =
         let n = sent-taken in
-        let h = heard-sent e k m low high in
         record {
-          reached = rw h at (step-taken t u (bytesOf t (sent e k)) rs (a .reached) sent-fits (taken-not-refused u (bytesOf t (sent e k)) n));
-          type = ap (λ (x : Table). x .head .«payload_type») (takes u (bytesOf t (sent e k)) n) ∙ a .type;
-          source = ap (λ (x : Table). x .head .ssrc) (takes u (bytesOf t (sent e k)) n) ∙ a .source;
-          told = λ r i. ⊎-elim (λ (q : r ≡ said t e k). rw q (told-sent e k m low high)) (λ j. a .told r j) (List·Memᴰ·cases-cons i);
+          reached = step-taken t u a rs (w .reached) (sent-fits a s) (taken-not-refused u a n);
+          type = ap (λ (x : Table). x .head .«payload_type») (takes u a n) ∙ w .type;
+          source = ap (λ (x : Table). x .head .ssrc) (takes u a n) ∙ w .source;
+          told = λ r i. ⊎-elim (λ (q : r ≡ heardBy t a). rw q (told-sent a s)) (λ j. w .told r j) (List·Memᴰ·cases-cons i);
         }
 
-  along-stranger : (rs : List Segment) (u : Table) (b : List ℕ) → Along rs u → refuses (receive u b .answer) ≡ true → Along rs (receive u b .table)
-  along-stranger rs u b a e = rw (refused-leaves u b e) a
+  pub along-refused : (rs : List Segment) (u : Table) (a : Arrival) → Along rs u → refuses (hear u a .answer) ≡ true → Along rs (hear u a .table)
+  along-refused rs u a w e = rw (refused-leaves u a e) w
+
+  -- what is refused is none of the events' reports
+  refused-not-sent : (rs : List Segment) (u : Table) → Along rs u → (a : Arrival) → SentReport es t a → refuses (hear u a .answer) ≡ true → ⊥
+  refused-not-sent rs u w a s r = false≢true (sym (taken-not-refused u a (sent-taken rs u w a s)) ∙ r)
 
   -- WHAT ARRIVES
 
-  -- a packet that is refused is none of the events'
-  refused-not-sent : (rs : List Segment) (u : Table) (b : List ℕ) → Along rs u → refuses (receive u b .answer) ≡ true → SentPacket es t b → ⊥
-  refused-not-sent rs u b a r s =
-      let n : receiveRefusal u b ≡ 0 = rw (s .5) (sent-taken rs u a (s .0) (s .1) (s .2) (s .3) (s .4)) in
-      false≢true (sym (taken-not-refused u b n) ∙ r)
+  -- each report of the events, and each copy, is taken; and nothing else is
+  pub record Outcome (more : List Arrival) (u : Table) : Type 0 where
+    pub all : (a : Arrival) → Mem a more → SentReport es t a → Mem a (takenOf u more)
+    pub only : (a : Arrival) → Mem a (takenOf u more) → SentReport es t a
 
-  -- a sent packet is one of the events', and arrives; a stranger is none of theirs
-  abbrev pub Arrived : List (List ℕ) → Handed → Type 0
-  Arrived ps (sent e k) = Mem e es × (1 ≤ k) × (k ≤ length (reports (planOf t e))) × Mem (bytesOf t (sent e k)) ps
-  Arrived ps (stranger b) = SentPacket es t b → ⊥
+  taken-first : (x : Arrival) (more : List Arrival) (u : Table) → refuses (hear u x .answer) ≡ false → takenOf u (x ∷ more) ≡ x ∷ takenOf (hear u x .table) more
+  unfolding takenOf
+  taken-first x more u e = rw e
 
-  arrived-more : (p : List ℕ) (ps : List (List ℕ)) (h : Handed) → Arrived ps h → Arrived (p ∷ ps) h
-  arrived-more p ps (sent e k) a = (a .0, a .1, a .2, List·Memᴰ·tail (a .3))
-  arrived-more p ps (stranger b) a = a
+  refused-first : (x : Arrival) (more : List Arrival) (u : Table) → refuses (hear u x .answer) ≡ true → takenOf u (x ∷ more) ≡ takenOf (hear u x .table) more
+  unfolding takenOf
+  refused-first x more u e = rw e
 
-  pub record Outcome (hs : List Handed) (u : Table) : Type 0 where
-    pub all : (h : Handed) → Mem h hs → Arrived (arrivals u (packets t hs)) h
-    pub only : (p : List ℕ) → Mem p (arrivals u (packets t hs)) → SentPacket es t p
-
-  pub outcome : (hs : List Handed) (rs : List Segment) (u : Table) → Along rs u → Admitted es t u hs → Outcome hs u
-  unfolding arrivals Admitted
-  outcome [] rs u a w = record { all = λ h m. absurd (List·Memᴰ·not-nil m); only = λ p m. absurd (List·Memᴰ·not-nil m) }
-  outcome (sent e k ∷ hs) rs u a w =
-      after (outcome hs (said t e k ∷ rs) (receive u packet .table) (along-sent rs u a e k (w .0 .0) (w .0 .1) (w .0 .2)) (w .1))
-      (arrivals-taken u packet (packets t hs) (taken-not-refused u packet (sent-taken rs u a e k (w .0 .0) (w .0 .1) (w .0 .2))))
+  pub outcome : (more : List Arrival) (rs : List Segment) (u : Table) → Along rs u → FairReports es t u more → Outcome more u
+  unfolding FairReports takenOf
+  outcome [] rs u w f = record { all = λ a m s. m; only = λ a m. absurd (List·Memᴰ·not-nil m) }
+  outcome (x ∷ more) rs u w f = go (f .0) (λ qs v. outcome more qs (hear u x .table) v (f .1))
     where
-      packet : List ℕ
-      packet = bytesOf t (sent e k)
-
-      after : Outcome hs (receive u packet .table)
-          → arrivals u (packet ∷ packets t hs) ≡ packet ∷ arrivals (receive u packet .table) (packets t hs) → Outcome (sent e k ∷ hs) u
-      after ih q = record {
-        all = λ h m. rw q (⊎-elim (λ (x : h ≡ sent e k). rw x (w .0 .0, w .0 .1, w .0 .2, List·Memᴰ·head refl))
-            (λ n. arrived-more packet _ h (ih .all h n)) (List·Memᴰ·cases-cons m));
-        only = λ p m. ⊎-elim (λ x. (e, k, w .0 .0, w .0 .1, w .0 .2, x)) (λ n. ih .only p n) (List·Memᴰ·cases-cons (rw q at m));
-      }
-  outcome (stranger b ∷ hs) rs u a w =
-      after (outcome hs rs (receive u b .table) (along-stranger rs u b a (w .0)) (w .1)) (arrivals-refused u b (packets t hs) (w .0))
-    where
-      after : Outcome hs (receive u b .table) → arrivals u (b ∷ packets t hs) ≡ arrivals (receive u b .table) (packets t hs) → Outcome (stranger b ∷ hs) u
-      after ih q = record {
-        all = λ h m. rw q (⊎-elim (λ (x : h ≡ stranger b). rw x (refused-not-sent rs u b a (w .0))) (λ n. ih .all h n) (List·Memᴰ·cases-cons m));
-        only = λ p m. ih .only p (rw q at m);
-      }
+      go : SentReport es t x ⊎ (refuses (hear u x .answer) ≡ true)
+          → ((qs : List Segment) → Along qs (hear u x .table) → Outcome more (hear u x .table)) → Outcome (x ∷ more) u
+      go (inl s) ih =
+          let k = ih (heardBy t x ∷ rs) (along-sent rs u w x s) in
+          let q = taken-first x more u (taken-not-refused u x (sent-taken rs u w x s)) in
+          record {
+            all = λ a m c. rw q (⊎-elim (λ e. List·Memᴰ·head e) (λ n. List·Memᴰ·tail (k .all a n c)) (List·Memᴰ·cases-cons m));
+            only = λ a m. ⊎-elim (λ (e : a ≡ x). rw e s) (λ n. k .only a n) (List·Memᴰ·cases-cons (rw q at m));
+          }
+      go (inr r) ih =
+          let k = ih rs (along-refused rs u x w r) in
+          let q = refused-first x more u r in
+          record {
+            all = λ a m c. rw q (⊎-elim (λ (e : a ≡ x). absurd (refused-not-sent rs u w x (rw e at c) r)) (λ n. k .all a n c) (List·Memᴰ·cases-cons m));
+            only = λ a m. k .only a (rw q at m);
+          }

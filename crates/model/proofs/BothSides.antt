@@ -135,7 +135,7 @@ written-told = refl
 -- a table with no segments, and zeros in its 128 places
 abbrev zeros : ℕ → ℕ → ℕ → Table
 zeros type ssrc origin = record {
-  head = record { «payload_type» = type; ssrc = ssrc; origin = origin; count = 0 };
+  head = record { «payload_type» = type; «both_types» = 0; «redundant_type» = 0; ssrc = ssrc; origin = origin; count = 0 };
   keys = replicate 128 0;
   heard = replicate 128 0;
 }
@@ -151,7 +151,7 @@ refused-at-128 = refl
 -- two presses of key 5, of which the second has no M; and the same with a payload type that fails the tests
 abbrev table : ℕ → Table
 table type = record {
-  head = record { «payload_type» = type; ssrc = 7; origin = 16; count = 2 };
+  head = record { «payload_type» = type; «both_types» = 0; «redundant_type» = 0; ssrc = 7; origin = 16; count = 2 };
   keys = 5 ∷ 0x6405 ∷ [];
   heard = 0x2A_0190 ∷ 0x29_0028 ∷ [];
 }

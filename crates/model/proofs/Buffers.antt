@@ -5,8 +5,8 @@ use mathlib.Core.List.{List, [], _∷_, _++_, map}
 use Rattle.model.specs.Packet.{afterHeader, payload, headerRefusal, payloadRefusal}
 use Rattle.model.specs.Segments.{rising}
 use Rattle.model.specs.Search.{middle, isSmaller, kept, searching}
-use Rattle.model.specs.Table.{segmentsFrom, emptyTable, allValid, valid, holds, put}
-use Rattle.model.specs.Receive.{heardIn, refusedBefore, receiveRefusal, probes, receive, answers, tableAfter}
+use Rattle.model.specs.Table.{segmentsFrom, oneType, emptyTable, allValid, valid, holds, put}
+use Rattle.model.specs.Receive.{heardBy, unheard, hearRefusal, probes, hear, arrivalIn, refusalFor, packetRefusal, receive, answers, tableAfter}
 use Rattle.model.specs.Frames.{frame, frames, frameSize, startsWhole, firstPacket, afterFirst, packetsWithin, packetsIn, used, rest}
 use Rattle.model.specs.Capture.{howMany, receivingAll, receivingNone, receiveCapture}
 
@@ -46,8 +46,8 @@ abbrev capture : List ℕ
 capture =
     frame [] ++ (frame (packet key-5) ++ (frame (packet (key-5 ++ key-5)) ++ (frame (packet (0 ∷ key-5)) ++ (frame (packet key-5) ++ (0 ∷ 2 ∷ 1 ∷ [])))))
 
-pub counted : receiveCapture (emptyTable 101 7 0) capture .answer ≡ record { refusal = 0; count = 1; used = 79; taken = 2; refused = 3; packed = 1 }
-unfolding receiveCapture receivingAll howMany answers tableAfter used frames packetsIn packetsWithin startsWhole frameSize firstPacket afterFirst receive receiveRefusal refusedBefore probes heardIn headerRefusal payloadRefusal payload afterHeader valid allValid rising segmentsFrom holds put searching kept middle isSmaller
+pub counted : receiveCapture (emptyTable (oneType 101 7 0)) capture .answer ≡ record { refusal = 0; count = 1; used = 79; taken = 2; refused = 3; packed = 1 }
+unfolding receiveCapture receivingAll howMany answers tableAfter used frames packetsIn packetsWithin startsWhole frameSize firstPacket afterFirst receive packetRefusal refusalFor hear hearRefusal unheard probes heardBy arrivalIn headerRefusal payloadRefusal payload afterHeader valid allValid rising segmentsFrom holds put searching kept middle isSmaller
 counted = refl
 
 pub part-left : rest capture ≡ 0 ∷ 2 ∷ 1 ∷ []
@@ -55,6 +55,6 @@ unfolding rest used frames packetsIn packetsWithin startsWhole frameSize firstPa
 part-left = refl
 
 -- a table that 16 refuses
-pub nothing-counted : receiveCapture (emptyTable 128 7 0) capture ≡ record { answer = record { refusal = 16; count = 0; used = 0; taken = 0; refused = 0; packed = 0 }; table = emptyTable 128 7 0 }
+pub nothing-counted : receiveCapture (emptyTable (oneType 128 7 0)) capture ≡ record { answer = record { refusal = 16; count = 0; used = 0; taken = 0; refused = 0; packed = 0 }; table = emptyTable (oneType 128 7 0) }
 unfolding receiveCapture receivingNone valid allValid rising segmentsFrom
 nothing-counted = refl

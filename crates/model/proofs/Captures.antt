@@ -1,7 +1,7 @@
 -- A whole capture in one call: the same as its packets one by one, and in pieces the same as at once.
 use Prim.Native.Nat.{ℕ, zero, suc, _+_, _*_, _≤_, _<_}
 use mathlib.Core.Path.{_≡_, refl, sym, _∙_, ap}
-use mathlib.Core.Bool.{Bool, true, false, not, cond, false≢true}
+use mathlib.Core.Bool.{Bool, true, false, not, cond}
 use mathlib.Core.List.{List, [], _∷_, _++_, List·Memᴰ·head, List·Memᴰ·tail, List·Memᴰ·cases-cons, List·Memᴰ·not-nil}
 use mathlib.Core.Logic.{⊎-elim}
 use native.Mathlib.Omega.{arith}
@@ -13,17 +13,17 @@ use Rattle.model.specs.declared.Received.{Received}
 use Rattle.model.specs.declared.Captured.{Captured}
 use Rattle.model.specs.Packet.{bit, number16}
 use Rattle.model.specs.Table.{valid}
-use Rattle.model.specs.Receive.{receive, refuses, answers, tableAfter}
+use Rattle.model.specs.Receive.{packetRefusal, receive, refuses, answers, tableAfter}
 use Rattle.model.specs.Sizes.{BytesFit}
 use Rattle.model.specs.Frames.{frame, frames, startsWhole, firstPacket, afterFirst, packetsIn, used, rest, frameSize}
 use Rattle.model.specs.Capture.{howMany, takes, refusesPacked, Capturing, receivingAll, receivingNone, receiveCapture, together, unused, In-pieces}
 use Rattle.model.specs.Demands.{Call, packet, capture, afterCall, tableAfterCalls, packetsOf, handedOver, As-one-by-one, Demand-3-with-captures}
 use Rattle.model.proofs.Basics.{Mem}
 use Rattle.model.proofs.Packets.{fits-parts}
-use Rattle.model.proofs.Receives.{taken-then, refused-leaves, taken-unless}
+use Rattle.model.proofs.Receives.{packet-leaves}
 use Rattle.model.proofs.Runs.{stays-valid}
 use Rattle.model.proofs.Frames.{too-few, none-first, one-first, used-none, used-first, fit-after, frame-by-frame, packets-in-pieces, used-in-pieces, used-within, rest-short}
-use Rattle.model.proofs.InBytes.{demand-3-in-bytes}
+use Rattle.model.proofs.FirstAlone.{demand-3-in-bytes}
 
 -- LISTS OF CALLS
 
@@ -49,16 +49,13 @@ valid-after t (p ∷ ps) v f = valid-after (receive t p .table) ps (stays-valid 
 
 -- a table that fails the tests takes nothing
 refuses-invalid : (t : Table) (p : List ℕ) → valid t ≡ false → refuses (receive t p .answer) ≡ true
-refuses-invalid t p bad = go (refuses (receive t p .answer)) refl
-  where
-    go : (b : Bool) → refuses (receive t p .answer) ≡ b → b ≡ true
-    go true e = refl
-    go false e = absurd (false≢true (sym bad ∙ taken-then t p (taken-unless t p e) .searched .passes))
+unfolding receive packetRefusal
+refuses-invalid t p bad = rw bad
 
 invalid-stays : (t : Table) (ps : List (List ℕ)) → valid t ≡ false → tableAfter t ps ≡ t
 unfolding tableAfter
 invalid-stays t [] bad = refl
-invalid-stays t (p ∷ ps) bad = rw (refused-leaves t p (refuses-invalid t p bad)) (invalid-stays t ps bad)
+invalid-stays t (p ∷ ps) bad = rw (packet-leaves t p (refuses-invalid t p bad)) (invalid-stays t ps bad)
 
 -- THE PACKETS OF A BUFFER
 

@@ -1,217 +1,292 @@
--- DEMAND 3, whole, and its corollary. What arrives is what was sent, so the table holds the segments of the events, and the
--- list is the events. The table after the calls follows from the arrivals alone, so equal arrivals mean equal events.
-use Prim.Native.Nat.{ℕ, _+_, _*_, _%_, _<_, _≤_}
-use mathlib.Core.Path.{_≡_, refl, sym, ap, _∙_}
+-- DEMAND 3 over the calls of both receivers: what they look at is what was sent, a copy or refused, so the list is the events sent. The
+-- table after the calls follows from the arrivals alone, so equal arrivals mean equal events.
+use Prim.Native.Nat.{ℕ}
+use mathlib.Core.Path.{_≡_, refl, sym, ap, _∙_, subst}
 use mathlib.Core.Bool.{Bool, true, false, cond}
-use mathlib.Core.List.{List, [], map, List·Memᴰ·not-nil, Memᴰ·cast}
-use native.Mathlib.Omega.{arith}
-use lib.Dec.{ltb}
-use lib.ListN.{length}
-use borrow.Author.Tests.{ltb-false, le-leb}
-use Rattle.model.specs.declared.Report.{Report}
-use Rattle.model.specs.declared.Segment.{Segment}
-use Rattle.model.specs.declared.Table.{Table}
-use Rattle.model.specs.declared.Opened.{Opened}
-use Rattle.model.specs.Refusals.{none, outOfRange}
-use Rattle.model.specs.Plan.{fullSegments, restUnits, cut, reports, reportAt, planInRange}
-use Rattle.model.specs.Segments.{rising, segmentsOf}
-use Rattle.model.specs.Table.{segmentsFrom, emptyTable, opened, held, allValid, valid}
-use Rattle.model.specs.Receive.{heardIn, tableAfter, arrivals}
-use Rattle.model.specs.Events.{eventsOf}
-use Rattle.model.specs.Sizes.{asListed, Sent, planOf, Sizes, BytesFit}
-use Rattle.model.specs.Demands.{
-  Empty,
-  Lists,
-  reportsTaken,
-  Handed,
-  sent,
-  bytesOf,
-  packets,
-  Admitted,
-  Needed,
-  Delivered,
-  Demand-3,
-  Demand-3-corollary,
+use mathlib.Core.List.{
+  List,
+  [],
+  _∷_,
+  _++_,
+  map,
+  List·Memᴰ·head,
+  List·Memᴰ·cases-cons,
+  List·Memᴰ·not-nil,
+  List·Memᴰ·append-cases,
+  Memᴰ·append-left,
+  Memᴰ·append-right,
 }
-use Rattle.model.proofs.Order.{rising-one}
-use Rattle.model.proofs.Segments.{is-segmentsOf}
-use Rattle.model.proofs.Runs.{Reached, filled, heard-from, lists-events}
-use Rattle.model.proofs.Cuts.{InCut, cut-place, cut-units, one-first, one-last, later}
-use Rattle.model.proofs.Plans.{Says, sayings-first}
-use Rattle.model.proofs.Recovered.{segmentsSent, allSent, of-all, in-all, all-rising, events-of-all, Witness, recovered}
-use Rattle.model.proofs.Sends.{plans-for, plan-ranges, sayingAt, report-is, said, said-says, said-before, sent-later}
-use Rattle.model.proofs.Arrives.{apart, ToldOf, Along, along-empty, told-sent, heard-sent, sent-fits, Outcome, outcome}
-use Rattle.model.specs.Search.{noSegment}
-use Rattle.model.proofs.Basics.{Mem, mem-map, map-mem}
+use mathlib.Core.Logic.{_⊎_, inl, inr, ⊎-elim}
+use lib.Dec.{eqb}
+use borrow.Author.Tests.{eqb-true}
+use Rattle.model.specs.declared.Report.{Report}
+use Rattle.model.specs.declared.Table.{Table}
+use Rattle.model.specs.Refusals.{none}
+use Rattle.model.specs.Packet.{ssrc}
+use Rattle.model.specs.Plan.{reportAt}
+use Rattle.model.specs.Receive.{Arrival, arrivalIn, hear, packetRefusal, refuses}
+use Rattle.model.specs.Redundant.{tableAfterReports}
+use Rattle.model.specs.Sizes.{asListed, Sent, planOf, Sizes, FitsTypes}
+use Rattle.model.specs.Demands.{sent, stranger, bytesOf, FairBytes}
+use Rattle.model.specs.Redundancy.{
+  Receipt,
+  byFirst,
+  bySecond,
+  afterReceipt,
+  heardAt,
+  Label,
+  report,
+  copy,
+  other,
+  Given,
+  first,
+  second,
+  receiptOf,
+  receipts,
+  sentArrival,
+  unmarked,
+  OneOf,
+  FairLabel,
+  FairLabels,
+  FairGiven,
+  AdmittedGiven,
+  labelsIn,
+  labels,
+  Brings,
+  DeliveredGiven,
+  Demand-3-redundant,
+  Demand-3-redundant-corollary,
+  SentReport,
+  FairReports,
+  FairReceipt,
+  AdmittedReceipts,
+  heardAll,
+  BringsReport,
+  DeliveredReceipts,
+  Demand-3-redundant-in-bytes,
+  Demand-3-redundant-in-bytes-corollary,
+}
+use Rattle.model.proofs.Packets.{packet-header}
+use Rattle.model.proofs.Receives.{read-if, heard-if}
+use Rattle.model.proofs.Calls.{after-receipt, after-all, arrivals-all}
+use Rattle.model.proofs.Runs.{lists-events}
+use Rattle.model.proofs.Sends.{sent-bytes, sent-in-range, sent-report, sent-arrives}
+use Rattle.model.proofs.Arrives.{Along, along-empty, along-sent, along-refused}
+use Rattle.model.proofs.Brought.{Brought, final, events-after, same-events}
+use Rattle.model.proofs.Basics.{Mem}
 
-module _ (t : Table) (es : List Sent) (hs : List Handed) (d : Delivered t es hs) where
-  along : Along t es (d .sizes) (d .fits) [] t
-  along = along-empty t es (d .sizes) (d .fits) (d .empty)
+-- REPORT BY REPORT
 
-  what-arrives : Outcome t es (d .sizes) (d .fits) hs t
-  what-arrives = outcome t es (d .sizes) (d .fits) hs [] t along (d .admitted)
+fair-both : (es : List Sent) (t u : Table) (xs ys : List Arrival) → FairReports es t u xs → FairReports es t (tableAfterReports u xs) ys
+    → FairReports es t u (xs ++ ys)
+unfolding FairReports tableAfterReports
+fair-both es t u [] ys f g = g
+fair-both es t u (x ∷ xs) ys f g = (f .0, fair-both es t (hear u x .table) xs ys (f .1) g)
 
-  arrivals-fit : (p : List ℕ) → Mem p (arrivals t (packets t hs)) → BytesFit p
-  arrivals-fit p m =
-      let q = what-arrives .only p m in
-      rw (q .5) (sent-fits t es (d .sizes) (d .fits) [] t along (q .0) (q .1) (q .2) (q .3) (q .4))
+module _ (t : Table) (es : List Sent) (sizes : Sizes t es) (fits : FitsTypes t es []) where
+  abbrev OnTheWay : Table → Type 0
+  OnTheWay u = (rs : List _) × Along t es sizes fits rs u
 
-  pub final : Reached t (reportsTaken t (packets t hs)) (tableAfter t (packets t hs))
-  final = filled t (packets t hs) (d .empty) arrivals-fit
+  on-all : (more : List Arrival) (u : Table) → OnTheWay u → FairReports es t u more → OnTheWay (tableAfterReports u more)
+  unfolding FairReports tableAfterReports
+  on-all [] u w f = w
+  on-all (a ∷ more) u w f = on-all more (hear u a .table) (go (f .0)) (f .1)
+    where
+      go : SentReport es t a ⊎ (refuses (hear u a .answer) ≡ true) → OnTheWay (hear u a .table)
+      go (inl s) = (_, along-sent t es sizes fits (w .0) u (w .1) a s)
+      go (inr r) = (_, along-refused t es sizes fits (w .0) u a (w .1) r)
 
-  -- every report taken says something of a segment of the events
-  told : (r : Segment) → Mem r (reportsTaken t (packets t hs)) → ToldOf t es (d .sizes) (d .fits) r
-  told r m =
-      let p = map-mem (heardIn t) (arrivals t (packets t hs)) r m in
-      let q = what-arrives .only (p .0) (p .1) in
-      let e : r ≡ said t (q .0) (q .1) = p .2 ∙ ap (heardIn t) (q .5) ∙ heard-sent t es (d .sizes) (d .fits) (q .0) (q .1) (q .2) (q .3) (q .4) in
-      rw e (told-sent t es (d .sizes) (d .fits) (q .0) (q .1) (q .2) (q .3) (q .4))
+  -- CALL BY CALL
 
-  -- a report handed over is among those taken
-  pub record Heard (e : Sent) (k : ℕ) : Type 0 where
-    pub low : 1 ≤ k
-    pub high : k ≤ length (reports (planOf t e))
-    pub taken : Mem (said t e k) (reportsTaken t (packets t hs))
+  -- 01's receiver looks at the report of a sent packet
+  module _ (u : Table) (w : OnTheWay u) (e : Sent) (k : ℕ) (o : OneOf es t e k) where
+    abbrev bytes : List ℕ
+    bytes = bytesOf t (sent e k)
 
-  heard : (e : Sent) (k : ℕ) → Mem (sent e k) hs → Heard e k
-  heard e k m =
-      let q = what-arrives .all (sent e k) m in
-      let h = heard-sent t es (d .sizes) (d .fits) e k (q .0) (q .1) (q .2) in
+    sent-read : packetRefusal u bytes ≡ none
+    sent-read =
+        let range = sizes .ranges e (o .0) in
+        let q = sent-report t e range k (o .1) (o .2) (fits .ssrc) in
+        rw (sent-bytes t e range k (o .1) (o .2)) (read-if u _ (record {
+          passes = w .1 .reached .passes;
+          header = packet-header (reportAt (planOf t e) k) (sent-in-range t e range k (o .1) (o .2));
+          type = ap (λ (x : Report). x .«payload_type») q ∙ sym (w .1 .type);
+          source = ap (λ (x : Report). x .ssrc) q ∙ sym (w .1 .source);
+        }))
+
+    sent-is : arrivalIn bytes ≡ sentArrival t e k
+    sent-is = let range = sizes .ranges e (o .0) in ap arrivalIn (sent-bytes t e range k (o .1) (o .2)) ∙ sent-arrives t e range k (o .1) (o .2) (fits .ssrc)
+
+    pub sent-heard : heardAt u (byFirst bytes) ≡ sentArrival t e k ∷ []
+    sent-heard = rw (sent-read, sent-is)
+
+  fair-packet : (u : Table) (p : List ℕ) → OnTheWay u → FairBytes es t u p → FairReports es t u (heardAt u (byFirst p))
+  unfolding FairReports
+  fair-packet u p w (inl s) =
+      let o : OneOf es t (s .0) (s .1) = (s .2, s .3, s .4) in
+      rw (s .5, sent-heard u w (s .0) (s .1) o) (inl (s .0, s .1, o, inl refl), tt)
+  fair-packet u p w (inr r) = go (eqb (packetRefusal u p) none) refl
+    where
+      go : (b : Bool) → eqb (packetRefusal u p) none ≡ b → FairReports es t u (cond b (arrivalIn p ∷ []) [])
+      go true q = (inr ((λ i. refuses (sym (heard-if u p (eqb-true (packetRefusal u p) none q)) i .answer)) ∙ r), tt)
+      go false q = tt
+
+  fair-receipt : (u : Table) (c : Receipt) → OnTheWay u → FairReceipt es t u c → FairReports es t u (heardAt u c)
+  fair-receipt u (byFirst p) w f = fair-packet u p w f
+  fair-receipt u (bySecond bs lent) w f = f
+
+  on-receipt : (u : Table) (c : Receipt) → OnTheWay u → FairReceipt es t u c → OnTheWay (afterReceipt u c)
+  on-receipt u c w f = rw (after-receipt u c) (on-all (heardAt u c) u w (fair-receipt u c w f))
+
+  fair-all : (cs : List Receipt) (u : Table) → OnTheWay u → AdmittedReceipts es t u cs → FairReports es t u (heardAll u cs)
+  unfolding AdmittedReceipts heardAll FairReports
+  fair-all [] u w f = tt
+  fair-all (c ∷ cs) u w f =
+      let here = fair-receipt u c w (f .0) in
+      let later = fair-all cs (afterReceipt u c) (on-receipt u c w (f .0)) (f .1) in
+      fair-both es t u (heardAt u c) (heardAll (afterReceipt u c) cs) here
+      (subst (λ (x : Table). FairReports es t x (heardAll (afterReceipt u c) cs)) (after-receipt u c) later)
+
+  -- a sent packet that is handed to 01's receiver is looked at
+  pub packet-heard : (cs : List Receipt) (u : Table) → OnTheWay u → AdmittedReceipts es t u cs → (e : Sent) (k : ℕ) → OneOf es t e k
+      → Mem (byFirst (bytesOf t (sent e k))) cs → Mem (sentArrival t e k) (heardAll u cs)
+  unfolding AdmittedReceipts heardAll
+  packet-heard [] u w f e k o m = absurd (List·Memᴰ·not-nil m)
+  packet-heard (c ∷ cs) u w f e k o m =
+      go (packet-heard cs (afterReceipt u c) (on-receipt u c w (f .0)) (f .1) e k o) (List·Memᴰ·cases-cons m)
+    where
+      go : (Mem (byFirst (bytesOf t (sent e k))) cs → Mem (sentArrival t e k) (heardAll (afterReceipt u c) cs))
+          → (byFirst (bytesOf t (sent e k)) ≡ c) ⊎ Mem (byFirst (bytesOf t (sent e k))) cs
+          → Mem (sentArrival t e k) (heardAt u c ++ heardAll (afterReceipt u c) cs)
+      go ih (inl q) =
+          let here : Mem (sentArrival t e k) (heardAt u c) = rw (← q, sent-heard u w e k o) (List·Memᴰ·head refl) in
+          Memᴰ·append-left (heardAll (afterReceipt u c) cs) here
+      go ih (inr n) = Memᴰ·append-right (heardAt u c) (ih n)
+
+-- IN BYTES
+
+pub brought : (t : Table) (es : List Sent) (cs : List Receipt) → DeliveredReceipts t es cs → Brought t es (heardAll t cs)
+brought t es cs d = record {
+  empty = d .empty;
+  sizes = d .sizes;
+  fits = d .fits;
+  fair = fair-all t es (d .sizes) (d .fits) cs t ([], along-empty t es (d .sizes) (d .fits) (d .empty)) (d .admitted);
+  needed = d .needed;
+}
+
+pub demand-3-redundant-in-bytes : Demand-3-redundant-in-bytes
+demand-3-redundant-in-bytes t es cs d =
+    let b = brought t es cs d in
+    rw (after-all t cs)
+    (lists-events (tableAfterReports t (heardAll t cs)) (final t es (heardAll t cs) b .passes) (map asListed es) (events-after t es (heardAll t cs) b))
+
+pub demand-3-redundant-in-bytes-corollary : Demand-3-redundant-in-bytes-corollary
+demand-3-redundant-in-bytes-corollary t u es fs cs ds same-type same-source same-origin d c e =
+    same-events t u es fs (heardAll t cs) (heardAll u ds) same-origin (brought t es cs d) (brought u fs ds c)
+    (sym (arrivals-all t cs) ∙ (e ∙ arrivals-all u ds))
+
+-- WITH LABELS
+
+-- labels forgotten
+unlabelled : (es : List Sent) (t u : Table) (more : List Arrival) (ls : List Label) → FairLabels es t u more ls → FairReports es t u more
+unfolding FairLabels FairReports
+unlabelled es t u [] [] f = tt
+unlabelled es t u [] (l ∷ ls) f = absurd f
+unlabelled es t u (a ∷ more) [] f = absurd f
+unlabelled es t u (a ∷ more) (report e k ∷ ls) f = (inl (e, k, f .0 .0, inl (f .0 .1)), unlabelled es t (hear u a .table) more ls (f .1))
+unlabelled es t u (a ∷ more) (copy e k ∷ ls) f = (inl (e, k, f .0 .0, inr (f .0 .1)), unlabelled es t (hear u a .table) more ls (f .1))
+unlabelled es t u (a ∷ more) (other ∷ ls) f = (inr (f .0), unlabelled es t (hear u a .table) more ls (f .1))
+
+-- what a label says was looked at
+abbrev Heard : List Sent → Table → Label → List Arrival → Type 0
+Heard es t (report e k) more = OneOf es t e k × Mem (sentArrival t e k) more
+Heard es t (copy e k) more = OneOf es t e k × Mem (unmarked (sentArrival t e k)) more
+Heard es t other more = Unit {0}
+
+heard-left : (es : List Sent) (t : Table) (l : Label) (xs ys : List Arrival) → Heard es t l xs → Heard es t l (xs ++ ys)
+heard-left es t (report e k) xs ys h = (h .0, Memᴰ·append-left ys (h .1))
+heard-left es t (copy e k) xs ys h = (h .0, Memᴰ·append-left ys (h .1))
+heard-left es t other xs ys h = tt
+
+heard-right : (es : List Sent) (t : Table) (l : Label) (xs ys : List Arrival) → Heard es t l ys → Heard es t l (xs ++ ys)
+heard-right es t (report e k) xs ys h = (h .0, Memᴰ·append-right xs (h .1))
+heard-right es t (copy e k) xs ys h = (h .0, Memᴰ·append-right xs (h .1))
+heard-right es t other xs ys h = tt
+
+label-heard : (es : List Sent) (t u : Table) (a : Arrival) (l : Label) → FairLabel es t u a l → Heard es t l (a ∷ [])
+label-heard es t u a (report e k) f = (f .0, List·Memᴰ·head (sym (f .1)))
+label-heard es t u a (copy e k) f = (f .0, List·Memᴰ·head (sym (f .1)))
+label-heard es t u a other f = tt
+
+labels-heard : (es : List Sent) (t u : Table) (more : List Arrival) (ls : List Label) → FairLabels es t u more ls → (l : Label) → Mem l ls → Heard es t l more
+unfolding FairLabels
+labels-heard es t u [] [] f l m = absurd (List·Memᴰ·not-nil m)
+labels-heard es t u [] (x ∷ ls) f l m = absurd f
+labels-heard es t u (a ∷ more) [] f l m = absurd f
+labels-heard es t u (a ∷ more) (x ∷ ls) f l m =
+    ⊎-elim (λ (q : l ≡ x). rw q (heard-left es t x (a ∷ []) more (label-heard es t u a x (f .0))))
+    (λ n. heard-right es t l (a ∷ []) more (labels-heard es t (hear u a .table) more ls (f .1) l n)) (List·Memᴰ·cases-cons m)
+
+module _ (t : Table) (es : List Sent) (sizes : Sizes t es) (fits : FitsTypes t es []) where
+  fair-given : (u : Table) (g : Given) → FairGiven es t u g → FairReceipt es t u (receiptOf t g)
+  fair-given u (first (sent e k)) f = inl (e, k, f .0, f .1, f .2, refl)
+  fair-given u (first (stranger b)) f = inr f
+  fair-given u (second bs lent ls) f = unlabelled es t u (heardAt u (bySecond bs lent)) ls f
+
+  admitted-given : (gs : List Given) (u : Table) → AdmittedGiven es t u gs → AdmittedReceipts es t u (receipts t gs)
+  unfolding AdmittedGiven AdmittedReceipts
+  admitted-given [] u f = tt
+  admitted-given (g ∷ gs) u f = (fair-given u g (f .0), admitted-given gs (afterReceipt u (receiptOf t g)) (f .1))
+
+  given-heard : (u : Table) (g : Given) → OnTheWay t es sizes fits u → FairGiven es t u g → (l : Label) → Mem l (labelsIn g)
+      → Heard es t l (heardAt u (receiptOf t g))
+  given-heard u (first (sent e k)) w f l m =
+      ⊎-elim (λ (q : l ≡ report e k). rw (q, sent-heard t es sizes fits u w e k f) (f, List·Memᴰ·head refl))
+      (λ n. absurd (List·Memᴰ·not-nil n)) (List·Memᴰ·cases-cons m)
+  given-heard u (first (stranger b)) w f l m = ⊎-elim (λ (q : l ≡ other). rw q tt) (λ n. absurd (List·Memᴰ·not-nil n)) (List·Memᴰ·cases-cons m)
+  given-heard u (second bs lent ls) w f l m = labels-heard es t u (heardAt u (bySecond bs lent)) ls f l m
+
+  all-heard : (gs : List Given) (u : Table) → OnTheWay t es sizes fits u → AdmittedGiven es t u gs → (l : Label) → Mem l (labels gs)
+      → Heard es t l (heardAll u (receipts t gs))
+  unfolding AdmittedGiven labels heardAll
+  all-heard [] u w f l m = absurd (List·Memᴰ·not-nil m)
+  all-heard (g ∷ gs) u w f l m =
+      go (all-heard gs (afterReceipt u (receiptOf t g)) (on-receipt t es sizes fits u (receiptOf t g) w (fair-given u g (f .0))) (f .1) l)
+      (List·Memᴰ·append-cases (labelsIn g) m)
+    where
+      more : List Arrival
+      more = heardAll (afterReceipt u (receiptOf t g)) (receipts t gs)
+
+      go : (Mem l (labels gs) → Heard es t l more) → Mem l (labelsIn g) ⊎ Mem l (labels gs) → Heard es t l (heardAt u (receiptOf t g) ++ more)
+      go ih (inl n) = heard-left es t l (heardAt u (receiptOf t g)) more (given-heard u g w (f .0) l n)
+      go ih (inr n) = heard-right es t l (heardAt u (receiptOf t g)) more (ih n)
+
+pub without-labels : (t : Table) (es : List Sent) (gs : List Given) → DeliveredGiven t es gs → DeliveredReceipts t es (receipts t gs)
+without-labels t es gs d = record {
+  empty = d .empty;
+  sizes = d .sizes;
+  fits = d .fits;
+  admitted = admitted-given t es (d .sizes) (d .fits) gs t (d .admitted);
+  needed = λ e m.
+      let n = d .needed e m in
       record {
-        low = q .1;
-        high = q .2;
-        taken = Memᴰ·cast (sym h) (mem-map (heardIn t) (arrivals t (packets t hs)) (bytesOf t (sent e k)) (q .3));
-      }
-
-  -- WHAT WAS NEEDED IS WHAT EACH SEGMENT HAS TO HAVE
-  module _ (e : Sent) (m : Mem e es) (g : Segment) (i : Mem g (segmentsSent (planOf t) e)) where
-    abbrev rs : List Segment
-    rs = reportsTaken t (packets t hs)
-
-    range : planInRange (planOf t e) ≡ true
-    range = d .sizes .ranges e m
-
-    marked : g .marked ≡ true → (r : Segment) × Mem r rs × Says g r × (r .marked ≡ true)
-    marked h =
-        let k = heard e 1 (d .needed e m .first) in
-        let q = said-says t e range 1 (k .low) (k .high) in
-        let first = sayings-first (planOf t e) noSegment .0 in
-        let same : q .0 ≡ g = one-first (planOf t e) (fullSegments (planOf t e)) (e .start) true (q .0) g (q .1) i (q .2 .marked first) h in
-        (said t e 1, k .taken, rw same at (q .2), first)
-
-    ended : g .ended ≡ true → (r : Segment) × Mem r rs × Says g r × (r .ended ≡ true)
-    ended h =
-        let y = d .needed e m .ended in
-        let k = heard e (y .0) (y .1) in
-        let q = said-says t e range (y .0) (k .low) (k .high) in
-        let last : said t e (y .0) .ended ≡ true = sym (ap (λ (r : Report). r .ended) (report-is (planOf t e) (y .0) (k .low) (k .high))) ∙ y .2 in
-        let same : q .0 ≡ g = one-last (planOf t e) (fullSegments (planOf t e)) (e .start) true (q .0) g (q .1) i (q .2 .ended last .0) h in
-        (said t e (y .0), k .taken, rw same at (q .2), last)
-
-    -- a report with a segment's timestamp says something of that segment
-    timestamp-tells : (c : Segment) → g ≡ later (e .start) c → (k : ℕ) → Heard e k
-        → reportAt (planOf t e) k .timestamp ≡ (planOf t e .start + c .offset) % 0x1_0000_0000 → Says g (said t e k)
-    timestamp-tells c moved k h stamp = rw same at (q .2)
-      where
-        q : (x : Segment) × Mem x (segmentsSent (planOf t) e) × Says x (said t e k)
-        q = said-says t e range k (h .low) (h .high)
-
-        at : (planOf t e .start + sayingAt (planOf t e) k .offset) % 0x1_0000_0000 ≡ (planOf t e .start + c .offset) % 0x1_0000_0000
-        at = sym (ap (λ (x : Report). x .timestamp) (report-is (planOf t e) k (h .low) (h .high))) ∙ stamp
-
-        place : (x : Segment) → Mem x (segmentsSent (planOf t) e)
-            → InCut (planOf t e) (e .start) (e .start + (fullSegments (planOf t e) * e .«segment_size» + restUnits (planOf t e))) x
-        place = cut-place (planOf t e) (plan-ranges (planOf t e) range .wide) (fullSegments (planOf t e)) (e .start) true
-
-        same-offset : said t e k .offset ≡ g .offset
-        same-offset =
-            omega (
-              arith,
-              at,
-              ap (λ (s : Segment). s .offset) moved,
-              said-before t e range k (h .low) (h .high),
-              place g i .to,
-              cut-units (planOf t e) (plan-ranges (planOf t e) range .some),
-              d .sizes .near e m,
-            )
-
-        same : q .0 ≡ g
-        same =
-            rising-one (allSent (planOf t) es)
-            (all-rising (planOf t) (plans-for t) 0 es (apart t es (d .sizes) (d .fits))) (q .0) g
-            (in-all (planOf t) es e (q .0) m (q .1)) (in-all (planOf t) es e g m i)
-            (record { offset = sym (q .2 .offset) ∙ same-offset; code = place (q .0) (q .1) .code ∙ sym (place g i .code) })
-
-    full-report : (b : Bool) → g .ended ≡ b → (r : Segment) × Mem r rs × Says g r × (r .duration ≡ g .duration)
-    full-report true h = let y = ended h in (y .0, y .1, y .2, y .2 .ended (y .3) .1)
-    full-report false h =
-        let c = map-mem (later (e .start)) (cut (planOf t e)) g (rw (sym (sent-later t e)) at i) in
-        let y = d .needed e m .full (c .0) (c .1) (sym (ap (λ (s : Segment). s .ended) (c .2)) ∙ h) in
-        let k = heard e (y .0) (y .1) in
-        let long : said t e (y .0) .duration ≡ g .duration =
-        sym (ap (λ (x : Report). x .duration) (report-is (planOf t e) (y .0) (k .low) (k .high))) ∙ y .3 ∙ sym (ap (λ (s : Segment). s .duration) (c .2)) in
-        (said t e (y .0), k .taken, timestamp-tells (c .0) (c .2) (y .0) k (y .2), long)
-
-    pub witness : Witness rs g
-    witness = record { full = full-report (g .ended) refl; ended = ended; marked = marked }
-
-  -- THE TABLE AND THE LIST AFTER THE LAST CALL
-
-  pub held-after : held (tableAfter t (packets t hs)) ≡ allSent (planOf t) es
-  held-after =
-      recovered (planOf t) (plans-for t) es (apart t es (d .sizes) (d .fits)) (final .derived) told
-      (λ g i. let q = of-all (planOf t) es g i in witness (q .0) (q .1) g (q .2))
-
-  pub events-after : eventsOf (held (tableAfter t (packets t hs))) ≡ map asListed es
-  events-after = ap eventsOf held-after ∙ events-of-all (planOf t) (plans-for t) 0 es (apart t es (d .sizes) (d .fits)) []
-
-pub demand-3 : Demand-3
-demand-3 t es hs d = lists-events (tableAfter t (packets t hs)) (final t es hs d .passes) (map asListed es) (events-after t es hs d)
-
--- THE COROLLARY
-
--- the reports taken follow from the arrivals and the origin
-same-reports : (t u : Table) (ps qs : List (List ℕ)) → t .head .origin ≡ u .head .origin → arrivals t ps ≡ arrivals u qs → reportsTaken t ps ≡ reportsTaken u qs
-same-reports t u ps qs o e = λ i. map (λ bs. heard-from u t bs o i) (e i)
-
-pub demand-3-corollary : Demand-3-corollary
-demand-3-corollary t u es fs hs ks same-type same-source same-origin d c e =
-    sym (events-after t es hs d)
-    ∙ ap eventsOf (is-segmentsOf (final t es hs d .derived)
-    ∙ ap segmentsOf (same-reports t u (packets t hs) (packets u ks) same-origin e)
-    ∙ sym (is-segmentsOf (final u fs ks c .derived)))
-    ∙ events-after u fs ks c
-
--- AN OPENED TABLE IS ONE INSTANCE
-
--- one that was not refused has the numbers given, and a payload type up to 127
-opened-then : (payloadType ssrc origin : ℕ) → opened payloadType ssrc origin .refusal ≡ none
-    → (payloadType ≤ 127) × (opened payloadType ssrc origin .table ≡ emptyTable payloadType ssrc origin)
-opened-then payloadType ssrc origin e = go (ltb 127 payloadType) refl e
+        first = heard (report e 1) (n .first) .1;
+        full = λ g i h. let y = n .full g i h in (y .0, brings e (y .0) (y .1), y .2, y .3);
+        ended = let y = n .ended in (y .0, brings e (y .0) (y .1), y .2);
+      };
+}
   where
-    answer : Bool → Opened
-    answer b = cond b (record { table = emptyTable 0 0 0; refusal = outOfRange }) (record { table = emptyTable payloadType ssrc origin; refusal = none })
+    heard : (l : Label) → Mem l (labels gs) → Heard es t l (heardAll t (receipts t gs))
+    heard = all-heard t es (d .sizes) (d .fits) gs t ([], along-empty t es (d .sizes) (d .fits) (d .empty)) (d .admitted)
 
-    go : (b : Bool) → ltb 127 payloadType ≡ b → answer b .refusal ≡ none → (payloadType ≤ 127) × (answer b .table ≡ emptyTable payloadType ssrc origin)
-    go true q e = absurd (omega (arith, e))
-    go false q e = (ltb-false 127 payloadType q, refl)
+    brings : (e : Sent) (k : ℕ) → Brings (labels gs) e k → BringsReport (heardAll t (receipts t gs)) t e k
+    brings e k (inl n) = let h = heard (report e k) n in (h .0 .1, h .0 .2, inl (h .1))
+    brings e k (inr n) = let h = heard (copy e k) n in (h .0 .1, h .0 .2, inr (h .1))
 
-pub opened-empty : (payloadType ssrc origin : ℕ) → opened payloadType ssrc origin .refusal ≡ none → Empty (opened payloadType ssrc origin .table)
-unfolding valid rising allValid segmentsFrom
-opened-empty payloadType ssrc origin e =
-    let k = opened-then payloadType ssrc origin e in
-    rw (k .1) (record { empty = refl; passes = le-leb payloadType 127 (k .0) })
+pub demand-3-redundant : Demand-3-redundant
+demand-3-redundant t es gs d = demand-3-redundant-in-bytes t es (receipts t gs) (without-labels t es gs d)
 
-module _ (payloadType ssrc origin : ℕ) (accepted : opened payloadType ssrc origin .refusal ≡ none) (es : List Sent) (hs : List Handed) where
-  abbrev table : Table
-  table = opened payloadType ssrc origin .table
-
-  pub demand-3-opened : ssrc < 0x1_0000_0000 → origin < 0x1_0000_0000 → ((e : Sent) → Mem e es → e .sequence < 65536) → Sizes table es
-      → Admitted es table table hs → ((e : Sent) → Mem e es → Needed table hs e) → Lists (tableAfter table (packets table hs)) (map asListed es)
-  demand-3-opened s o q sizes admitted needed = demand-3 table es hs (record {
-    empty = opened-empty payloadType ssrc origin accepted;
-    sizes = sizes;
-    fits = rw (opened-then payloadType ssrc origin accepted .1) (record { ssrc = s; origin = o; sequences = q; bytes = λ p m. absurd (List·Memᴰ·not-nil m) });
-    admitted = admitted;
-    needed = needed;
-  })
+pub demand-3-redundant-corollary : Demand-3-redundant-corollary
+demand-3-redundant-corollary t u es fs gs hs same-type same-source same-origin d c =
+    demand-3-redundant-in-bytes-corollary t u es fs (receipts t gs) (receipts u hs) same-type same-source same-origin
+    (without-labels t es gs d) (without-labels u fs hs c)

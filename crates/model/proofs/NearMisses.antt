@@ -11,7 +11,7 @@ use Rattle.model.specs.Packet.{afterHeader, payload, headerRefusal, payl
 use Rattle.model.specs.Plan.{cutFrom, interim, reportsOfAll, markFirst, allOnWire, reports, reportAt, writeReport}
 use Rattle.model.specs.Segments.{rising}
 use Rattle.model.specs.Table.{segmentsFrom, opened, allValid, valid, holds, put}
-use Rattle.model.specs.Receive.{heardIn, refusedBefore, receiveRefusal, probes, receive, tableAfter}
+use Rattle.model.specs.Receive.{heardBy, unheard, hearRefusal, probes, hear, arrivalIn, refusalFor, packetRefusal, receive, tableAfter}
 use Rattle.model.specs.Events.{units, loudest, lastEnded, continuesNearest, continuing, eventsFrom}
 use Rattle.model.specs.List.{events}
 use Rattle.model.specs.Sizes.{Sent}
@@ -82,7 +82,7 @@ rows =
     ∷ []
 
 pub rows-listed : map (λ row. events (tableAfter table (packets table (row .0)))) rows ≡ map (λ row. row .1) rows
-unfolding tableAfter receive refusedBefore receiveRefusal probes heardIn valid rising allValid segmentsFrom holds put headerRefusal afterHeader payload
+unfolding tableAfter receive packetRefusal refusalFor hear hearRefusal unheard probes heardBy arrivalIn valid rising allValid segmentsFrom holds put headerRefusal afterHeader payload
     payloadRefusal writeReport packetOf reportAt reports allOnWire markFirst reportsOfAll interim cutFrom units loudest lastEnded
     continuesNearest continuing eventsFrom
 rows-listed = refl

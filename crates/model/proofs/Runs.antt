@@ -1,7 +1,7 @@
 -- DEMAND 2. Along any list of receiving calls a table that passes the tests goes on passing them, and holds what is derived
 -- from the reports taken.
 use Prim.Native.Nat.{ℕ}
-use mathlib.Core.Path.{_≡_, refl, sym, ap, subst}
+use mathlib.Core.Path.{_≡_, refl, sym, ap, subst, _∙_}
 use mathlib.Core.Bool.{Bool, true, false, cond}
 use mathlib.Core.List.{
   List,
@@ -18,53 +18,88 @@ use mathlib.Core.List.{
   Memᴰ·append-left,
   Memᴰ·append-right,
 }
-use mathlib.Core.Logic.{⊎-elim}
+use mathlib.Core.Logic.{_⊎_, inl, inr, ⊎-elim}
 use native.Mathlib.Omega.{arith}
+use lib.Dec.{eqb}
 use lib.ListN.{length}
-use borrow.Author.Tests.{le-ltb, ne-eqb}
+use borrow.Author.Tests.{le-ltb, ne-eqb, eqb-true}
 use Rattle.model.specs.declared.Segment.{Segment}
 use Rattle.model.specs.declared.Event.{Event}
 use Rattle.model.specs.declared.Table.{Table}
+use Rattle.model.specs.Refusals.{none}
+use Rattle.model.specs.Packet.{payload}
 use Rattle.model.specs.Segments.{Within, Derived}
 use Rattle.model.specs.Table.{segmentsFrom, valid, held, validSegment, taking}
-use Rattle.model.specs.Receive.{heardIn, receive, refuses, tableAfter, arrivals}
+use Rattle.model.specs.Receive.{Arrival, heardBy, hear, arrivalIn, packetRefusal, receive, refuses, tableAfter, arrivals}
+use Rattle.model.specs.Redundant.{reportsIn, wholeRefusal, tableAfterReports}
 use Rattle.model.specs.Events.{eventsOf, Grouped}
 use Rattle.model.specs.List.{events}
 use Rattle.model.specs.Sizes.{BytesFit, FitsTypes}
-use Rattle.model.specs.Demands.{Empty, Lists, reportsTaken, Demand-2, Demand-2-any-order}
+use Rattle.model.specs.Demands.{Empty, Lists, Filled, Agree, reportsTaken, Demand-2, Demand-2-any-order}
+use Rattle.model.specs.Redundancy.{
+  Receipt,
+  byFirst,
+  bySecond,
+  bytesGiven,
+  afterReceipt,
+  afterReceipts,
+  heardAt,
+  takenOf,
+  arrivalsOf,
+  heardAll,
+  reportsOf,
+  Demand-2-redundant,
+  Demand-2-redundant-any-order,
+}
 use Rattle.model.proofs.Order.{rises, rises-if}
 use Rattle.model.proofs.Segments.{derived-put, derived-unique, is-segmentsOf}
 use Rattle.model.proofs.Keeping.{attained-more}
 use Rattle.model.proofs.Grouping.{eventsOf-grouped}
-use Rattle.model.proofs.Packets.{read-in-range}
+use Rattle.model.proofs.Packets.{payload-fits, payload-in-range}
 use Rattle.model.proofs.Tables.{valid-if, held-taking, room, taking-valid}
-use Rattle.model.proofs.Receives.{Searched, Taken, taken-then, refused-leaves, taken-unless, takes}
-use Rattle.model.proofs.Basics.{Mem}
+use Rattle.model.proofs.Receives.{Searched, Taken, taken-then, refused-leaves, taken-unless, takes, heard-if, refused-if}
+use Rattle.model.proofs.Reports.{reports-fit}
+use Rattle.model.proofs.Calls.{after-all, arrivals-all, ofFirst, first-bytes, first-calls, first-arrivals}
+use Rattle.model.proofs.Basics.{Mem, map-map}
 
--- ONE CALL
+-- ONE REPORT
 
-pub heard-valid : (t : Table) (bs : List ℕ) → BytesFit bs → Searched t bs → validSegment (heardIn t bs) ≡ true
-unfolding heardIn
-heard-valid t bs f k =
-    let q = read-in-range bs f (k .payload) in
-    valid-if (heardIn t bs) (record { offset = k .near; code = q .0; some = q .1; duration = q .2; volume = q .3 })
+abbrev pub PayloadFits : Arrival → Type 0
+PayloadFits a = BytesFit (a .payload)
 
-pub taken-valid : (t : Table) (bs : List ℕ) → valid t ≡ true → BytesFit bs → Taken t bs → valid (taking t (heardIn t bs)) ≡ true
-taken-valid t bs s f k = taking-valid t (heardIn t bs) s (heard-valid t bs f (k .searched)) (room t (heardIn t bs) s (k .room))
+pub heard-valid : (t : Table) (a : Arrival) → PayloadFits a → Searched t a → validSegment (heardBy t a) ≡ true
+unfolding heardBy
+heard-valid t a f k =
+    let q = payload-in-range (a .payload) f (k .payload) in
+    valid-if (heardBy t a) (record { offset = k .near; code = q .0; some = q .1; duration = q .2; volume = q .3 })
+
+pub taken-valid : (t : Table) (a : Arrival) → valid t ≡ true → PayloadFits a → Taken t a → valid (taking t (heardBy t a)) ≡ true
+taken-valid t a s f k = taking-valid t (heardBy t a) s (heard-valid t a f (k .searched)) (room t (heardBy t a) s (k .room))
+
+pub hear-stays-valid : (t : Table) (a : Arrival) → valid t ≡ true → PayloadFits a → valid (hear t a .table) ≡ true
+hear-stays-valid t a v f = go (refuses (hear t a .answer)) refl
+  where
+    go : (b : Bool) → refuses (hear t a .answer) ≡ b → valid (hear t a .table) ≡ true
+    go true q = rw (refused-leaves t a q) v
+    go false q = let n = taken-unless t a q in rw (takes t a n) (taken-valid t a v f (taken-then t a n))
+
+pub packet-report-fits : (bs : List ℕ) → BytesFit bs → PayloadFits (arrivalIn bs)
+unfolding arrivalIn
+packet-report-fits bs f = payload-fits bs f
 
 pub stays-valid : (t : Table) (bs : List ℕ) → valid t ≡ true → BytesFit bs → valid (receive t bs .table) ≡ true
-stays-valid t bs v f = go (refuses (receive t bs .answer)) refl
+stays-valid t bs v f = go (eqb (packetRefusal t bs) none) refl
   where
-    go : (b : Bool) → refuses (receive t bs .answer) ≡ b → valid (receive t bs .table) ≡ true
-    go true q = rw (refused-leaves t bs q) v
-    go false q = let n = taken-unless t bs q in rw (takes t bs n) (taken-valid t bs v f (taken-then t bs n))
+    go : (b : Bool) → eqb (packetRefusal t bs) none ≡ b → valid (receive t bs .table) ≡ true
+    go true e = rw (heard-if t bs (eqb-true (packetRefusal t bs) none e)) (hear-stays-valid t (arrivalIn bs) v (packet-report-fits bs f))
+    go false e = rw (refused-if t bs e) v
 
 -- what is heard depends on the table's origin alone
-pub heard-from : (t u : Table) (bs : List ℕ) → u .head .origin ≡ t .head .origin → heardIn u bs ≡ heardIn t bs
-unfolding heardIn
-heard-from t u bs e = rw e
+pub heard-from : (t u : Table) (a : Arrival) → u .head .origin ≡ t .head .origin → heardBy u a ≡ heardBy t a
+unfolding heardBy
+heard-from t u a e = rw e
 
--- ANY LIST OF CALLS
+-- ANY LIST OF REPORTS
 
 pub derived-same : {rs qs l : List Segment} → Within rs qs → Within qs rs → Derived rs l → Derived qs l
 derived-same f k d = record { rises = d .rises; kept = λ r m. d .kept r (k r m); attained = λ s m. attained-more f (d .attained s m) }
@@ -89,53 +124,45 @@ back a b r x m =
     ⊎-elim (λ e. Memᴰ·append-right a (List·Memᴰ·head e))
     (λ k. ⊎-elim (λ n. Memᴰ·append-left (r ∷ b) n) (λ n. Memᴰ·append-right a (List·Memᴰ·tail n)) (List·Memᴰ·append-cases a k)) (List·Memᴰ·cases-cons m)
 
-pub step-refused : (t u : Table) (p : List ℕ) (rs : List Segment) → Reached t rs u → refuses (receive u p .answer) ≡ true → Reached t rs (receive u p .table)
-step-refused t u p rs k e = rw (refused-leaves u p e) k
+pub step-refused : (t u : Table) (a : Arrival) (rs : List Segment) → Reached t rs u → refuses (hear u a .answer) ≡ true → Reached t rs (hear u a .table)
+step-refused t u a rs k e = rw (refused-leaves u a e) k
 
 derived-taking : (u : Table) (r : Segment) (rs : List Segment) → valid u ≡ true → validSegment r ≡ true → Derived rs (held u) → Derived (r ∷ rs) (held (taking u r))
 derived-taking u r rs s v d = rw (held-taking u r s v) (derived-put r rs (held u) d)
 
-pub step-taken : (t u : Table) (p : List ℕ) (rs : List Segment) → Reached t rs u → BytesFit p → refuses (receive u p .answer) ≡ false
-    → Reached t (heardIn t p ∷ rs) (receive u p .table)
-step-taken t u p rs k f e =
-    let n = taken-unless u p e in
-    let w = taken-then u p n in
-    rw (takes u p n) (record {
-      passes = taken-valid u p (k .passes) f w;
+pub step-taken : (t u : Table) (a : Arrival) (rs : List Segment) → Reached t rs u → PayloadFits a → refuses (hear u a .answer) ≡ false
+    → Reached t (heardBy t a ∷ rs) (hear u a .table)
+step-taken t u a rs k f e =
+    let n = taken-unless u a e in
+    let w = taken-then u a n in
+    rw (takes u a n) (record {
+      passes = taken-valid u a (k .passes) f w;
       origin = k .origin;
-      derived = rw (← (heard-from t u p (k .origin))) (derived-taking u (heardIn u p) rs (k .passes) (heard-valid u p f (w .searched)) (k .derived));
+      derived = rw (← (heard-from t u a (k .origin))) (derived-taking u (heardBy u a) rs (k .passes) (heard-valid u a f (w .searched)) (k .derived));
     })
 
-pub arrivals-refused : (u : Table) (p : List ℕ) (ps : List (List ℕ)) → refuses (receive u p .answer) ≡ true → arrivals u (p ∷ ps) ≡ arrivals (receive u p .table) ps
-unfolding arrivals
-arrivals-refused u p ps e = rw e
-
-pub arrivals-taken : (u : Table) (p : List ℕ) (ps : List (List ℕ)) → refuses (receive u p .answer) ≡ false → arrivals u (p ∷ ps) ≡ p ∷ arrivals (receive u p .table) ps
-unfolding arrivals
-arrivals-taken u p ps e = rw e
-
-pub run-reaches : (t u : Table) (ps : List (List ℕ)) (rs : List Segment) → Reached t rs u → ((p : List ℕ) → Mem p (arrivals u ps) → BytesFit p)
-    → Reached t (map (heardIn t) (arrivals u ps) ++ rs) (tableAfter u ps)
-unfolding tableAfter arrivals
-run-reaches t u [] rs k f = k
-run-reaches t u (p ∷ ps) rs k f = go (refuses (receive u p .answer)) refl f (run-reaches t (receive u p .table) ps)
+reports-reach : (t u : Table) (more : List Arrival) (rs : List Segment) → Reached t rs u → ((a : Arrival) → Mem a (takenOf u more) → PayloadFits a)
+    → Reached t (map (heardBy t) (takenOf u more) ++ rs) (tableAfterReports u more)
+unfolding tableAfterReports takenOf
+reports-reach t u [] rs k f = k
+reports-reach t u (a ∷ more) rs k f = go (refuses (hear u a .answer)) refl f (reports-reach t (hear u a .table) more)
   where
-    more : List (List ℕ)
-    more = arrivals (receive u p .table) ps
+    later : List Arrival
+    later = takenOf (hear u a .table) more
 
     last : Table
-    last = tableAfter (receive u p .table) ps
+    last = tableAfterReports (hear u a .table) more
 
-    go : (b : Bool) → refuses (receive u p .answer) ≡ b → ((q : List ℕ) → Mem q (cond b more (p ∷ more)) → BytesFit q)
-        → ((rs : List Segment) → Reached t rs (receive u p .table) → ((q : List ℕ) → Mem q more → BytesFit q) → Reached t (map (heardIn t) more ++ rs) last)
-        → Reached t (map (heardIn t) (cond b more (p ∷ more)) ++ rs) last
-    go true e f ih = ih rs (step-refused t u p rs k e) f
+    go : (b : Bool) → refuses (hear u a .answer) ≡ b → ((q : Arrival) → Mem q (cond b later (a ∷ later)) → PayloadFits q)
+        → ((rs : List Segment) → Reached t rs (hear u a .table) → ((q : Arrival) → Mem q later → PayloadFits q) → Reached t (map (heardBy t) later ++ rs) last)
+        → Reached t (map (heardBy t) (cond b later (a ∷ later)) ++ rs) last
+    go true e f ih = ih rs (step-refused t u a rs k e) f
     go false e f ih =
-        let w = ih (heardIn t p ∷ rs) (step-taken t u p rs k (f p (List·Memᴰ·head refl)) e) (λ q m. f q (List·Memᴰ·tail m)) in
+        let w = ih (heardBy t a ∷ rs) (step-taken t u a rs k (f a (List·Memᴰ·head refl)) e) (λ q m. f q (List·Memᴰ·tail m)) in
         record {
           passes = w .passes;
           origin = w .origin;
-          derived = derived-same (across (map (heardIn t) more) rs (heardIn t p)) (back (map (heardIn t) more) rs (heardIn t p)) (w .derived);
+          derived = derived-same (across (map (heardBy t) later) rs (heardBy t a)) (back (map (heardBy t) later) rs (heardBy t a)) (w .derived);
         }
 
 -- an empty table has taken nothing
@@ -143,9 +170,49 @@ pub start : (t : Table) → Empty t → Reached t [] t
 unfolding segmentsFrom
 start t e = record { passes = e .passes; origin = refl; derived = rw (e .empty) derived-none }
 
-pub filled : (t : Table) (ps : List (List ℕ)) → Empty t → ((p : List ℕ) → Mem p (arrivals t ps) → BytesFit p)
-    → Reached t (reportsTaken t ps) (tableAfter t ps)
-filled t ps e f = rw append-nil at (run-reaches t t ps [] (start t e) f)
+pub filled : (t : Table) (more : List Arrival) → Empty t → ((a : Arrival) → Mem a (takenOf t more) → PayloadFits a)
+    → Reached t (map (heardBy t) (takenOf t more)) (tableAfterReports t more)
+filled t more e f = rw append-nil at (reports-reach t t more [] (start t e) f)
+
+-- ANY LIST OF CALLS
+
+-- what is taken was looked at, in bytes that fit
+taken-mem : (t : Table) (more : List Arrival) (a : Arrival) → Mem a (takenOf t more) → Mem a more
+unfolding takenOf
+taken-mem t [] a m = m
+taken-mem t (x ∷ more) a m = go (refuses (hear t x .answer)) m (taken-mem (hear t x .table) more a)
+  where
+    later : List Arrival
+    later = takenOf (hear t x .table) more
+
+    go : (b : Bool) → Mem a (cond b later (x ∷ later)) → (Mem a later → Mem a more) → Mem a (x ∷ more)
+    go true m ih = List·Memᴰ·tail (ih m)
+    go false m ih = ⊎-elim (λ e. List·Memᴰ·head e) (λ n. List·Memᴰ·tail (ih n)) (List·Memᴰ·cases-cons m)
+
+heard-fits : (t : Table) (c : Receipt) → BytesFit (bytesGiven c) → (a : Arrival) → Mem a (heardAt t c) → PayloadFits a
+heard-fits t (byFirst bs) f a m = go (eqb (packetRefusal t bs) none) m
+  where
+    go : (b : Bool) → Mem a (cond b (arrivalIn bs ∷ []) []) → PayloadFits a
+    go true m = ⊎-elim (λ (e : a ≡ arrivalIn bs). rw e (packet-report-fits bs f)) (λ n. absurd (List·Memᴰ·not-nil n)) (List·Memᴰ·cases-cons m)
+    go false m = absurd (List·Memᴰ·not-nil m)
+heard-fits t (bySecond bs lent) f a m = go (eqb (wholeRefusal t bs (length lent)) none) m
+  where
+    go : (b : Bool) → Mem a (cond b (reportsIn (t .head) bs) []) → PayloadFits a
+    go true m = reports-fit (t .head) bs f a m
+    go false m = absurd (List·Memᴰ·not-nil m)
+
+all-fit : (t : Table) (cs : List Receipt) → ((p : List ℕ) → Mem p (map bytesGiven cs) → BytesFit p) → (a : Arrival) → Mem a (arrivalsOf t cs) → PayloadFits a
+unfolding arrivalsOf
+all-fit t [] f a m = absurd (List·Memᴰ·not-nil m)
+all-fit t (c ∷ cs) f a m =
+    go (all-fit (afterReceipt t c) cs (λ p n. f p (List·Memᴰ·tail n)) a) (List·Memᴰ·append-cases (takenOf t (heardAt t c)) m)
+  where
+    go : (Mem a (arrivalsOf (afterReceipt t c) cs) → PayloadFits a) → Mem a (takenOf t (heardAt t c)) ⊎ Mem a (arrivalsOf (afterReceipt t c) cs) → PayloadFits a
+    go ih (inl n) = heard-fits t c (f (bytesGiven c) (List·Memᴰ·head refl)) a (taken-mem t (heardAt t c) a n)
+    go ih (inr n) = ih n
+
+reached : (t : Table) (cs : List Receipt) → Empty t → FitsTypes t [] (map bytesGiven cs) → Reached t (reportsOf t cs) (afterReceipts t cs)
+reached t cs e f = rw (after-all t cs, arrivals-all t cs) (filled t (heardAll t cs) e (λ a m. all-fit t cs (f .bytes) a (rw (arrivals-all t cs) m)))
 
 -- THE LIST
 
@@ -155,37 +222,46 @@ lists-events t v vs e = subst (Lists t) e (record {
   at = λ k h h′. rw (v, ne-eqb k 0 (λ q. omega arith), le-ltb (length (events t)) k h′);
 })
 
--- what was not refused was handed over
-handed-over : (t : Table) (ps : List (List ℕ)) (p : List ℕ) → Mem p (arrivals t ps) → Mem p ps
-unfolding arrivals
-handed-over t [] p m = m
-handed-over t (q ∷ ps) p m = go (refuses (receive t q .answer)) m (handed-over (receive t q .table) ps p)
-  where
-    go : (b : Bool) → Mem p (cond b (arrivals (receive t q .table) ps) (q ∷ arrivals (receive t q .table) ps)) → (Mem p (arrivals (receive t q .table) ps) → Mem p ps) → Mem p (q ∷ ps)
-    go true m ih = List·Memᴰ·tail (ih m)
-    go false m ih = ⊎-elim (λ e. List·Memᴰ·head e) (λ n. List·Memᴰ·tail (ih n)) (List·Memᴰ·cases-cons m)
-
-reached : (t : Table) (ps : List (List ℕ)) → Empty t → FitsTypes t [] ps → Reached t (reportsTaken t ps) (tableAfter t ps)
-reached t ps e f = filled t ps e (λ p m. f .bytes p (handed-over t ps p m))
-
-pub demand-2 : Demand-2
-demand-2 t ps e f =
-    let k = reached t ps e f in
+-- what is reached is listed
+pub lists-derived : (t u : Table) (rs : List Segment) → Reached t rs u → Filled rs u
+lists-derived t u rs k =
     let q = is-segmentsOf (k .derived) in
     record {
       segments = q;
       derived = k .derived;
-      lists = lists-events (tableAfter t ps) (k .passes) _ (ap eventsOf q);
-      grouped = subst (λ l. Grouped (held (tableAfter t ps)) (eventsOf l)) q (eventsOf-grouped (held (tableAfter t ps)) (k .derived .rises));
+      lists = lists-events u (k .passes) _ (ap eventsOf q);
+      grouped = subst (λ l. Grouped (held u) (eventsOf l)) q (eventsOf-grouped (held u) (k .derived .rises));
     }
 
-pub demand-2-any-order : Demand-2-any-order
-demand-2-any-order t u ps qs e e′ f f′ w w′ =
-    let k = reached t ps e f in
-    let n = reached u qs e′ f′ in
+same-set : (t u t′ u′ : Table) (rs qs : List Segment) → Reached t rs t′ → Reached u qs u′ → Within rs qs → Within qs rs → Agree t′ u′
+same-set t u t′ u′ rs qs k n w w′ =
     let q = derived-unique w w′ (k .derived) (n .derived) in
     record {
       segments = q;
-      first = lists-events (tableAfter t ps) (k .passes) _ refl;
-      second = lists-events (tableAfter u qs) (n .passes) _ (ap eventsOf (sym q));
+      first = lists-events t′ (k .passes) _ refl;
+      second = lists-events u′ (n .passes) _ (ap eventsOf (sym q));
     }
+
+pub demand-2-redundant : Demand-2-redundant
+demand-2-redundant t cs e f = lists-derived t (afterReceipts t cs) (reportsOf t cs) (reached t cs e f)
+
+pub demand-2-redundant-any-order : Demand-2-redundant-any-order
+demand-2-redundant-any-order t u cs ds e e′ f f′ =
+    same-set t u (afterReceipts t cs) (afterReceipts u ds) (reportsOf t cs) (reportsOf u ds) (reached t cs e f) (reached u ds e′ f′)
+
+-- CALLS OF 01'S RECEIVER ALONE
+
+pub first-reports : (t : Table) (ps : List (List ℕ)) → reportsOf t (ofFirst ps) ≡ reportsTaken t ps
+first-reports t ps = ap (map (heardBy t)) (first-arrivals t ps) ∙ map-map (heardBy t) arrivalIn (arrivals t ps)
+
+reached-first : (t : Table) (ps : List (List ℕ)) → Empty t → FitsTypes t [] ps → Reached t (reportsTaken t ps) (tableAfter t ps)
+reached-first t ps e f =
+    let bytes : FitsTypes t [] (map bytesGiven (ofFirst ps)) = rw (first-bytes ps) f in
+    rw (← (first-reports t ps), ← (first-calls t ps)) (reached t (ofFirst ps) e bytes)
+
+pub demand-2 : Demand-2
+demand-2 t ps e f = lists-derived t (tableAfter t ps) (reportsTaken t ps) (reached-first t ps e f)
+
+pub demand-2-any-order : Demand-2-any-order
+demand-2-any-order t u ps qs e e′ f f′ =
+    same-set t u (tableAfter t ps) (tableAfter u qs) (reportsTaken t ps) (reportsTaken u qs) (reached-first t ps e f) (reached-first u qs e′ f′)

@@ -13,13 +13,14 @@ use Rattle.model.specs.declared.Plan.{Plan}
 use Rattle.model.specs.declared.Segment.{Segment}
 use Rattle.model.specs.declared.Table.{Table}
 use Rattle.model.specs.Limits.{isCode}
-use Rattle.model.specs.Refusals.{noReport}
-use Rattle.model.specs.Packet.{reportIn, packetOf, reportInRange, ssrc}
+use Rattle.model.specs.Refusals.{none, noReport}
+use Rattle.model.specs.Packet.{reportIn, payloadRefusal, packetOf, reportInRange, ssrc}
 use Rattle.model.specs.Plan.{fullSegments, cutFrom, cut, sayings, onWire, reports, reportAt, longest, planInRange, writeReport}
-use Rattle.model.specs.Receive.{offset, heardFrom, heardIn}
-use Rattle.model.specs.Sizes.{Sent, end, planOf, ReportFits}
+use Rattle.model.specs.Receive.{offset, heardBy, arrivalIn}
+use Rattle.model.specs.Sizes.{Sent, end, planOf, BytesFit, ReportFits}
 use Rattle.model.specs.Demands.{sent, bytesOf}
-use Rattle.model.proofs.Packets.{packet-report}
+use Rattle.model.specs.Redundancy.{sentArrival}
+use Rattle.model.proofs.Packets.{Ranges, ranges, payload-back, payload-passes, payload-bytes-fit, packet-arrival, packet-report}
 use Rattle.model.proofs.Cuts.{cut-place, cut-within, cut-units, later, cut-later}
 use Rattle.model.proofs.Plans.{Says, sayings-first, sayings-say, length-wire, wire-at, mem-at, marked-first}
 use Rattle.model.proofs.Recovered.{PlansFor, segmentsSent}
@@ -163,11 +164,37 @@ module _ (t : Table) (e : Sent) (range : planInRange (planOf t e) ≡ true) (k :
     pub sent-report : reportIn (packetOf (reportAt (planOf t e) k)) ≡ onWire (planOf t e) (k - 1) (sayingAt (planOf t e) k)
     sent-report = packet-report (reportAt (planOf t e) k) (report-fits (planOf t e) k low high fits) sent-in-range ∙ report-is (planOf t e) k low high
 
-    -- from the table's origin it is heard as it was said
-    pub heard-as-said : t .head .origin < 0x1_0000_0000 → end e < 0x8000_0000 → heardIn t (packetOf (reportAt (planOf t e) k)) ≡ said t e k
-    unfolding heardIn
-    heard-as-said small near =
-        let s = sayingAt (planOf t e) k in
-        let q : offset (t .head .origin) (((t .head .origin + e .start) % 0x1_0000_0000 + s .offset) % 0x1_0000_0000) ≡ e .start + s .offset = omega (arith, said-before) in
-        ap (heardFrom (t .head .origin)) sent-report
-        ∙ (λ i. record { offset = q i; code = s .code; duration = s .duration; volume = s .volume; ended = s .ended; marked = s .marked })
+    -- its report arrives by its own timestamp, marker and payload
+    pub sent-arrives : arrivalIn (packetOf (reportAt (planOf t e) k)) ≡ sentArrival t e k
+    unfolding sentArrival
+    sent-arrives = packet-arrival (reportAt (planOf t e) k) (report-fits (planOf t e) k low high fits) sent-in-range
+
+  abbrev in-range : Ranges (reportAt (planOf t e) k)
+  in-range = ranges (reportAt (planOf t e) k) sent-in-range
+
+  pub sent-passes : payloadRefusal (sentArrival t e k .payload) ≡ none
+  unfolding sentArrival
+  sent-passes =
+      payload-passes (reportAt (planOf t e) k .code) (reportAt (planOf t e) k .ended) (reportAt (planOf t e) k .volume)
+      (reportAt (planOf t e) k .duration) (in-range .code) (in-range .some) (in-range .most)
+
+  pub sent-payload-fits : BytesFit (sentArrival t e k .payload)
+  unfolding sentArrival
+  sent-payload-fits =
+      payload-bytes-fit (reportAt (planOf t e) k .code) (reportAt (planOf t e) k .ended) (reportAt (planOf t e) k .volume)
+      (reportAt (planOf t e) k .duration) (omega (arith, in-range .code)) (omega (arith, in-range .volume))
+
+  -- from the table's origin it is heard as it was said
+  pub heard-as-said : t .head .origin < 0x1_0000_0000 → end e < 0x8000_0000 → heardBy t (sentArrival t e k) ≡ said t e k
+  unfolding heardBy sentArrival
+  heard-as-said small near =
+      let r = reportAt (planOf t e) k in
+      let s = sayingAt (planOf t e) k in
+      let q : offset (t .head .origin) (((t .head .origin + e .start) % 0x1_0000_0000 + s .offset) % 0x1_0000_0000) ≡ e .start + s .offset = omega (arith, said-before) in
+      let is = report-is (planOf t e) k low high in
+      let back = payload-back (r .code) (r .ended) (r .volume) (r .duration) (in-range .volume) (in-range .most) in
+      let at = ap (λ (x : Report). offset (t .head .origin) (x .timestamp)) is ∙ q in
+      let long = back .duration-is ∙ ap (λ (x : Report). x .duration) is in
+      let loud = back .volume-is ∙ ap (λ (x : Report). x .volume) is in
+      let last = back .end-is ∙ ap (λ (x : Report). x .ended) is in
+      λ i. record { offset = at i; code = is i .code; duration = long i; volume = loud i; ended = last i; marked = is i .marker }

@@ -8,14 +8,14 @@ use mathlib.Core.Logic.{⊎-elim}
 use native.Mathlib.Nat.{eq-or-lt-of-le}
 use native.Mathlib.Numerals.{add-one}
 use native.Mathlib.Omega.{arith}
-use lib.Dec.{leb, eqb}
+use lib.Dec.{eqb}
 use lib.ListN.{length, getD, drop, length-map, List·getD-append}
 use borrow.Author.Tests.{ltb-true, leb-true, eqb-false, lt-ltb, le-leb}
 use Rattle.model.specs.declared.Segment.{Segment}
 use Rattle.model.specs.declared.Table.{Table}
 use Rattle.model.specs.Limits.{isCode}
 use Rattle.model.specs.Segments.{before, samePair, rising, merge}
-use Rattle.model.specs.Table.{keyOf, heardOf, segmentAt, segmentsFrom, held, place, storing, validSegment, allValid, valid, holds, noRoom, put, taking}
+use Rattle.model.specs.Table.{keyOf, heardOf, segmentAt, segmentsFrom, held, place, storing, validSegment, allValid, validTypes, valid, holds, noRoom, put, taking}
 use Rattle.model.proofs.Order.{Alike, Compared, compared, ≺-not-alike, same-then, below-cons, Rising, rises, rises-if}
 use Rattle.model.proofs.Segments.{put-rising}
 use Rattle.model.proofs.Numbers.{segment-back}
@@ -182,7 +182,7 @@ pub record Passed (t : Table) : Type 0 where
   pub few : t .head .count ≤ 128
   pub rises : Rising (held t)
   pub each : allValid (held t) ≡ true
-  pub type : leb (t .head .«payload_type») 127 ≡ true
+  pub types : validTypes (t .head) ≡ true
 
 pub tests-passed : (t : Table) → valid t ≡ true → Passed t
 unfolding valid
@@ -190,11 +190,11 @@ tests-passed t v =
     let a = and-then _ _ v in
     let b = and-then _ _ (a .1) in
     let c = and-then _ _ (b .1) in
-    record { few = leb-true _ _ (a .0); rises = rises (held t) (b .0); each = c .0; type = c .1 }
+    record { few = leb-true _ _ (a .0); rises = rises (held t) (b .0); each = c .0; types = c .1 }
 
 pub passes-if : (t : Table) → Passed t → valid t ≡ true
 unfolding valid
-passes-if t p = and-both (le-leb (t .head .count) 128 (p .few)) (and-both (rises-if (held t) (p .rises)) (and-both (p .each) (p .type)))
+passes-if t p = and-both (le-leb (t .head .count) 128 (p .few)) (and-both (rises-if (held t) (p .rises)) (and-both (p .each) (p .types)))
 
 pub held-taking : (t : Table) (r : Segment) → valid t ≡ true → validSegment r ≡ true → held (taking t r) ≡ put r (held t)
 held-taking t r s v = held-storing (put r (held t)) t (put-valid r (held t) v (tests-passed t s .each))
@@ -219,7 +219,7 @@ taking-valid t r s v h = passes-if (taking t r) (record {
   few = h;
   rises = rw (held-taking t r s v) (put-rising r (held t) (p .rises));
   each = rw (held-taking t r s v) (put-valid r (held t) v (p .each));
-  type = p .type;
+  types = p .types;
 })
   where
     p : Passed t

@@ -17,8 +17,8 @@ use Rattle.model.specs.Packet.{afterHeader, payload, headerRefusal, payl
 use Rattle.model.specs.Plan.{segment}
 use Rattle.model.specs.Segments.{rising}
 use Rattle.model.specs.Search.{middle, isSmaller, kept, searching, search}
-use Rattle.model.specs.Table.{segmentsFrom, opened, emptyTable, allValid, valid, holds, put}
-use Rattle.model.specs.Receive.{heardIn, refusedBefore, receiveRefusal, probes, receive}
+use Rattle.model.specs.Table.{segmentsFrom, opened, oneType, emptyTable, allValid, valid, holds, put}
+use Rattle.model.specs.Receive.{heardBy, unheard, hearRefusal, probes, hear, arrivalIn, refusalFor, packetRefusal, receive}
 use Rattle.model.specs.Events.{units, loudest, lastEnded, continuesNearest, continuing, eventsFrom, eventsOf}
 
 -- PACKETS
@@ -128,11 +128,11 @@ calls =
     ∷ ((opened 101 8 16 .table, header 0x80 ++ (good ++ good)), 6)  -- 6 before 17
     ∷ ((table, header 0x80 ++ (good ++ good)), 17)
     ∷ ((opened 100 7 16 .table, header 0xA0), 4)  -- 4 before 5
-    ∷ ((emptyTable 128 7 16, []), 16)  -- 16 before 1
+    ∷ ((emptyTable (oneType 128 7 16), []), 16)  -- 16 before 1
     ∷ []
 
 pub calls-answer : map (λ row. receive (row .0 .0) (row .0 .1) .answer .refusal) calls ≡ map (λ row. row .1) calls
-unfolding packetOf receive refusedBefore receiveRefusal probes heardIn valid rising allValid segmentsFrom holds headerRefusal afterHeader payload payloadRefusal
+unfolding packetOf receive packetRefusal refusalFor hear hearRefusal unheard probes heardBy arrivalIn valid rising allValid segmentsFrom holds headerRefusal afterHeader payload payloadRefusal
 calls-answer = refl
 
 -- THE COLUMNS
@@ -140,7 +140,7 @@ calls-answer = refl
 -- three places, of which the first holds offset 100, code 5, duration 400, volume 10
 abbrev one-held : Table
 one-held = record {
-  head = record { «payload_type» = 101; ssrc = 7; origin = 16; count = 1 };
+  head = record { «payload_type» = 101; «both_types» = 0; «redundant_type» = 0; ssrc = 7; origin = 16; count = 1 };
   keys = 0x6405 ∷ 99 ∷ 98 ∷ [];
   heard = 0x28_0190 ∷ 97 ∷ 96 ∷ [];
 }
@@ -159,7 +159,7 @@ columns =
 
 pub columns-after : map (λ row. (receive one-held (row .0) .answer, (receive one-held (row .0) .table .keys, receive one-held (row .0) .table .heard))) columns
     ≡ map (λ row. row .1) columns
-unfolding packetOf receive refusedBefore receiveRefusal probes heardIn valid rising allValid segmentsFrom holds put headerRefusal afterHeader payload payloadRefusal middle isSmaller kept searching
+unfolding packetOf receive packetRefusal refusalFor hear hearRefusal unheard probes heardBy arrivalIn valid rising allValid segmentsFrom holds put headerRefusal afterHeader payload payloadRefusal middle isSmaller kept searching
 columns-after = refl
 
 -- THE SEARCH
@@ -223,7 +223,7 @@ keys-from k (suc n) = k ∷ keys-from (k + 512) n
 -- 128 segments of code 5, at offsets 1, 3, .. 255
 abbrev full : Table
 full = record {
-  head = record { «payload_type» = 101; ssrc = 7; origin = 16; count = 128 };
+  head = record { «payload_type» = 101; «both_types» = 0; «redundant_type» = 0; ssrc = 7; origin = 16; count = 128 };
   keys = keys-from 261 128;
   heard = replicate 128 0x28_0190;
 }
@@ -241,7 +241,7 @@ full-calls =
     ∷ []
 
 pub full-answers : map (λ row. receive full (row .0) .answer) full-calls ≡ map (λ row. row .1) full-calls
-unfolding packetOf receive refusedBefore receiveRefusal probes heardIn valid rising allValid segmentsFrom holds put headerRefusal afterHeader payload payloadRefusal middle isSmaller kept searching
+unfolding packetOf receive packetRefusal refusalFor hear hearRefusal unheard probes heardBy arrivalIn valid rising allValid segmentsFrom holds put headerRefusal afterHeader payload payloadRefusal middle isSmaller kept searching
 full-answers = refl
 
 -- EVENTS

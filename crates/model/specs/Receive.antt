@@ -4,54 +4,58 @@ use Prim.Native.Nat.{ℕ, _+_, _-_, _%_}
 use mathlib.Core.Bool.{Bool, false, not, cond}
 use mathlib.Core.List.{List, [], _∷_}
 use lib.Dec.{leb, eqb}
-use Rattle.model.specs.declared.Report.{Report}
 use Rattle.model.specs.declared.Segment.{Segment}
+use Rattle.model.specs.declared.Head.{Head}
 use Rattle.model.specs.declared.Table.{Table}
 use Rattle.model.specs.declared.Received.{Received}
 use Rattle.model.specs.Refusals.{otherPayloadType, otherSsrc, offsetTooLarge, tableFull, invalidTable, none, _if_else_, _orElse_}
-use Rattle.model.specs.Packet.{headerRefusal, payloadRefusal, payload, payloadType, ssrc, reportIn}
+use Rattle.model.specs.Packet.{headerRefusal, payloadRefusal, payload, payloadType, marker, timestamp, ssrc, code, ended, volume, duration}
 use Rattle.model.specs.Search.{search}
 use Rattle.model.specs.Table.{valid, held, holds, noRoom, taking}
+
+-- ONE REPORT
 
 -- 01's term: a report's offset is (timestamp - origin) modulo 2^32
 abbrev pub offset : ℕ → ℕ → ℕ
 offset origin timestamp = (timestamp + 0x1_0000_0000 - origin) % 0x1_0000_0000
 
+-- what a table is handed of a report: its own timestamp, whether it counts as marked, and its payload
+pub record Arrival : Type 0 where
+  pub timestamp : ℕ
+  pub marked : Bool
+  pub payload : List ℕ
+
 -- the report, as it is heard from an origin
-abbrev pub heardFrom : ℕ → Report → Segment
-heardFrom origin r = record {
-  offset = offset origin (r .timestamp);
-  code = r .code;
-  duration = r .duration;
-  volume = r .volume;
-  ended = r .ended;
-  marked = r .marker;
+abbrev pub heardFrom : ℕ → Arrival → Segment
+heardFrom origin a = record {
+  offset = offset origin (a .timestamp);
+  code = code (a .payload);
+  duration = duration (a .payload);
+  volume = volume (a .payload);
+  ended = ended (a .payload);
+  marked = a .marked;
 }
 
-unfoldable pub heardIn : Table → List ℕ → Segment
-heardIn t bs = heardFrom (t .head .origin) (reportIn bs)
+unfoldable pub heardBy : Table → Arrival → Segment
+heardBy t a = heardFrom (t .head .origin) a
 
--- the refusals before the segments held are searched for the report's pair
-unfoldable pub refusedBefore : Table → List ℕ → ℕ
-refusedBefore t bs =
-    invalidTable if not (valid t) else
-    headerRefusal bs orElse
-    otherPayloadType if not (eqb (payloadType bs) (t .head .«payload_type»)) else
-    otherSsrc if not (eqb (ssrc bs) (t .head .ssrc)) else
-    payloadRefusal (payload bs) orElse
-    offsetTooLarge if leb 0x8000_0000 (heardIn t bs .offset) else
+-- the refusals before the segments held are searched for the report's pair, from an origin
+unfoldable pub unheard : ℕ → Arrival → ℕ
+unheard origin a =
+    payloadRefusal (a .payload) orElse
+    offsetTooLarge if leb 0x8000_0000 (offset origin (a .timestamp)) else
     none
 
 -- and then the one that the search finds out
-unfoldable pub receiveRefusal : Table → List ℕ → ℕ
-receiveRefusal t bs =
-    refusedBefore t bs orElse
-    tableFull if noRoom t (heardIn t bs) else
+unfoldable pub hearRefusal : Table → Arrival → ℕ
+hearRefusal t a =
+    unheard (t .head .origin) a orElse
+    tableFull if noRoom t (heardBy t a) else
     none
 
 -- the number of entries looked at: "Under 11 too; refused before the search: 0" (02, request 4)
-unfoldable pub probes : Table → List ℕ → ℕ
-probes t bs = cond (eqb (refusedBefore t bs) none) (search (heardIn t bs) (held t) .probes) 0
+unfoldable pub probes : Table → Arrival → ℕ
+probes t a = cond (eqb (unheard (t .head .origin) a) none) (search (heardBy t a) (held t) .probes) 0
 
 -- what the call answers, and the table after it
 pub record Receiving : Type 0 where
@@ -73,11 +77,40 @@ taken t r looked = record {
   table = taking t r;
 }
 
+unfoldable pub hear : Table → Arrival → Receiving
+hear t a =
+    cond (eqb (hearRefusal t a) none)
+    (taken t (heardBy t a) (probes t a))
+    (refusing (hearRefusal t a) t (probes t a))
+
+-- A PACKET
+
+-- the report in a packet that was read as far as its payload
+unfoldable pub arrivalIn : List ℕ → Arrival
+arrivalIn bs = record { timestamp = timestamp bs; marked = marker bs; payload = payload bs }
+
+abbrev pub heardIn : Table → List ℕ → Segment
+heardIn t bs = heardBy t (arrivalIn bs)
+
+-- the refusals of a packet by its header, for a table with this head
+unfoldable pub refusalFor : Head → List ℕ → ℕ
+refusalFor h bs =
+    headerRefusal bs orElse
+    otherPayloadType if not (eqb (payloadType bs) (h .«payload_type»)) else
+    otherSsrc if not (eqb (ssrc bs) (h .ssrc)) else
+    none
+
+-- all refusals before its report is looked at
+unfoldable pub packetRefusal : Table → List ℕ → ℕ
+packetRefusal t bs =
+    invalidTable if not (valid t) else
+    refusalFor (t .head) bs
+
 unfoldable pub receive : Table → List ℕ → Receiving
 receive t bs =
-    cond (eqb (receiveRefusal t bs) none)
-    (taken t (heardIn t bs) (probes t bs))
-    (refusing (receiveRefusal t bs) t (probes t bs))
+    cond (eqb (packetRefusal t bs) none)
+    (hear t (arrivalIn bs))
+    (refusing (packetRefusal t bs) t 0)
 
 -- does an answer refuse?
 abbrev pub refuses : Received → Bool

@@ -17,20 +17,54 @@ use Rattle.model.specs.Segments.{before, samePair, rising, merge}
 
 -- OPENING
 
--- no segments, and zeros in all places
-abbrev pub emptyTable : ℕ → ℕ → ℕ → Table
-emptyTable payloadType ssrc origin = record {
-  head = record { «payload_type» = payloadType; ssrc = ssrc; origin = origin; count = 0 };
-  keys = replicate 128 0;
-  heard = replicate 128 0;
+-- what a table is opened for: one payload type, the event's; or also that of redundant packets (02, request 2)
+abbrev pub oneType : ℕ → ℕ → ℕ → Head
+oneType payloadType ssrc origin = record {
+  «payload_type» = payloadType;
+  «both_types» = 0;
+  «redundant_type» = 0;
+  ssrc = ssrc;
+  origin = origin;
+  count = 0;
 }
 
+abbrev pub bothTypes : ℕ → ℕ → ℕ → ℕ → Head
+bothTypes payloadType redundantType ssrc origin = record {
+  «payload_type» = payloadType;
+  «both_types» = 1;
+  «redundant_type» = redundantType;
+  ssrc = ssrc;
+  origin = origin;
+  count = 0;
+}
+
+-- was a table with this head opened for both?
+abbrev pub isForBoth : Head → Bool
+isForBoth h = not (eqb (h .«both_types») 0)
+
+-- no segments, and zeros in all places
+abbrev pub emptyTable : Head → Table
+emptyTable h = record { head = h; keys = replicate 128 0; heard = replicate 128 0 }
+
 -- a refused open returns an empty table of zeros
+abbrev pub openedIf : Bool → Head → Opened
+openedIf inRange h =
+    cond inRange
+    (record { table = emptyTable h; refusal = none })
+    (record { table = emptyTable (oneType 0 0 0); refusal = outOfRange })
+
+-- the first opening: a payload type up to 127
 abbrev pub opened : ℕ → ℕ → ℕ → Opened
-opened payloadType ssrc origin =
-    cond (ltb 127 payloadType)
-    (record { table = emptyTable 0 0 0; refusal = outOfRange })
-    (record { table = emptyTable payloadType ssrc origin; refusal = none })
+opened payloadType ssrc origin = openedIf (leb payloadType 127) (oneType payloadType ssrc origin)
+
+-- two payload types up to 127 that differ
+abbrev pub typesDiffer : ℕ → ℕ → Bool
+typesDiffer payloadType redundantType = leb payloadType 127 && (leb redundantType 127 && not (eqb payloadType redundantType))
+
+-- the second opening takes both types (02, request 2)
+abbrev pub openedBoth : ℕ → ℕ → ℕ → ℕ → Opened
+openedBoth payloadType redundantType ssrc origin =
+    openedIf (typesDiffer payloadType redundantType) (bothTypes payloadType redundantType ssrc origin)
 
 -- A SEGMENT IN TWO NUMBERS
 -- The key orders segments: by offset, then code. The other number is what was heard.
@@ -67,7 +101,14 @@ tableOf h keys heard = record { head = h; keys = keys; heard = heard }
 
 -- a head that counts n segments
 abbrev pub holding : ℕ → Head → Head
-holding n h = record { «payload_type» = h .«payload_type»; ssrc = h .ssrc; origin = h .origin; count = n }
+holding n h = record {
+  «payload_type» = h .«payload_type»;
+  «both_types» = h .«both_types»;
+  «redundant_type» = h .«redundant_type»;
+  ssrc = h .ssrc;
+  origin = h .origin;
+  count = n;
+}
 
 -- the segment at place i of two columns
 abbrev pub segmentAt : List ℕ → List ℕ → ℕ → Segment
@@ -106,9 +147,14 @@ unfoldable pub allValid : List Segment → Bool
 allValid [] = true
 allValid (s ∷ ts) = validSegment s && allValid ts
 
--- at most 128 segments, strictly rising by offset then code, each within its ranges, and a payload type up to 127
+-- A payload type up to 127. In a table of the second opening both types, and that they differ; a table of the first has the event's
+-- type alone (02, request 2).
+abbrev pub validTypes : Head → Bool
+validTypes h = cond (isForBoth h) (typesDiffer (h .«payload_type») (h .«redundant_type»)) (leb (h .«payload_type») 127)
+
+-- at most 128 segments, strictly rising by offset then code, each within its ranges, and the types
 unfoldable pub valid : Table → Bool
-valid t = leb (t .head .count) 128 && (rising (held t) && (allValid (held t) && leb (t .head .«payload_type») 127))
+valid t = leb (t .head .count) 128 && (rising (held t) && (allValid (held t) && validTypes (t .head)))
 
 -- ONE REPORT
 

@@ -42,10 +42,14 @@ pub struct Segment {
     pub marked: bool,
 }
 
-// What a table was opened with, and how many segments it holds.
+// What a table was opened with, and how many segments it holds. `both_types` is 0 in a table that was opened for one payload
+// type, where nothing looks at `redundant_type`; else that is the payload type of redundant packets. It is no bool, so that every byte
+// that is read back from a file stands for one of the two.
 #[repr(C)]
 pub struct Head {
     pub payload_type: u8,
+    pub both_types: u8,
+    pub redundant_type: u8,
     pub ssrc: u32,
     pub origin: u32,
     pub count: usize,
@@ -133,6 +137,55 @@ pub struct Captured {
     pub packed: usize,
 }
 
+// Where a walk over the blocks of a redundant packet stands: the places of the next block's header and of its body, its data, and
+// where the payload ends. At a cursor of zeros there is no block.
+#[repr(C)]
+pub struct Cursor {
+    pub header: usize,
+    pub body: usize,
+    pub end: usize,
+}
+
+// What the start of a walk answers: refusal 0 and the cursor at the first block, or the refusal's number and a cursor of zeros.
+#[repr(C)]
+pub struct WalkStart {
+    pub cursor: Cursor,
+    pub refusal: u8,
+}
+
+// The block at a cursor: its payload type and timestamp offset, whether it is the primary, which is the last, and its data, from
+// `start` up to `end` of the packet; and the cursor after it. If there are no more, `found` is false, the cursor is as it was, and
+// the others are zeros.
+#[repr(C)]
+pub struct BlockStep {
+    pub after: Cursor,
+    pub start: usize,
+    pub end: usize,
+    pub offset: u16,
+    pub payload_type: u8,
+    pub primary: bool,
+    pub found: bool,
+}
+
+// What receiving a packet that may be redundant answers beside the columns and entries lent to it: refusal 0 and how many entries were
+// written, one for each block of the event's type, or the refusal's number and 0; and how many segments are held after it.
+#[repr(C)]
+pub struct BlocksReceived {
+    pub blocks: usize,
+    pub count: usize,
+    pub refusal: u8,
+}
+
+// An older report that a redundant packet repeats. A block has no marker, sequence number or SSRC of its own.
+#[repr(C)]
+pub struct OlderReport {
+    pub timestamp: u32,
+    pub code: u32,
+    pub ended: bool,
+    pub volume: u32,
+    pub duration: u32,
+}
+
 // What the list call answers beside the lent records: refusal 0 and the number of events, or the refusal's number and 0.
 #[repr(C)]
 pub struct Listed {
@@ -174,3 +227,7 @@ pub const LIST_TOO_SMALL: u8 = 15;
 pub const INVALID_TABLE: u8 = 16;
 
 pub const PACKED: u8 = 17;
+
+pub const HEADERS_RUN_OUT: u8 = 18;
+
+pub const BLOCKS_TOO_LONG: u8 = 19;

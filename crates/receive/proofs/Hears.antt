@@ -7,20 +7,20 @@ use native.Mathlib.Omega.{arith}
 use borrow.Author.Needs.{needs}
 use borrow.Author.Tests.{le-leb, lt-leb}
 use Rattle.model.specs.Packet.{bit, payloadRefusal}
-use Rattle.model.specs.Receive.{offset}
+use Rattle.model.specs.Receive.{offset, unheard}
 use Rattle.packet.specs.declared.payload.Payload.{Payload}
 use Rattle.packet.specs.declared.payload.Payload.the-variants as payload
 use Rattle.packet.specs.Stages.{payloadOf, refusalOfPayload}
 use Rattle.packet.proofs.Laws.{Reported, reported-says, unreported-says}
 use Rattle.receive.specs.declared.hearing.Hearing.{Hearing}
 use Rattle.receive.specs.declared.hearing.Hearing.the-variants as hearing
-use Rattle.receive.specs.Sayings.{sayingRefusal, hearingOf}
+use Rattle.receive.specs.Sayings.{arrival, hearingOf}
 
 -- THE WAYS THROUGH
 
 module _ (origin time : ℕ) (m : Bool) (p : List ℕ) (read : Payload) (stage : read ≡ payloadOf p) where
-  pub no-report : (n : ℕ) → read ≡ payload.Refused n → (k : ℕ) → k ≡ refusalOfPayload read → hearing.Refused k ≡ hearingOf origin time m p
-  unfolding hearingOf sayingRefusal
+  pub no-report : (n : ℕ) → read ≡ payload.Refused n → (k : ℕ) → k ≡ refusalOfPayload read → hearing.Refused k ≡ hearingOf origin (arrival time m p)
+  unfolding hearingOf unheard
   no-report n x k y =
       let s = unreported-says p read stage n x in
       let same : k ≡ payloadRefusal p = y ∙ ap refusalOfPayload x ∙ s .1 in
@@ -30,13 +30,13 @@ module _ (origin time : ℕ) (m : Bool) (p : List ℕ) (read : Payload) (stage :
     says : Reported p c e v d
     says = reported-says p read stage c e v d x
 
-    pub too-far : 0x8000_0000 ≤ o → hearing.Refused 10 ≡ hearingOf origin time m p
-    unfolding hearingOf sayingRefusal
+    pub too-far : 0x8000_0000 ≤ o → hearing.Refused 10 ≡ hearingOf origin (arrival time m p)
+    unfolding hearingOf unheard
     too-far far = rw (says .unrefused, le-leb 0x8000_0000 (offset origin time) (omega (arith, at)))
 
     pub all-heard : o < 0x8000_0000 → (key : ℕ) → key ≡ o * 256 + c → (told : ℕ) → told ≡ d + 0x1_0000 * (bit e + 2 * (bit m + 2 * v))
-        → hearing.Heard key told ≡ hearingOf origin time m p
-    unfolding hearingOf sayingRefusal
+        → hearing.Heard key told ≡ hearingOf origin (arrival time m p)
+    unfolding hearingOf unheard
     all-heard near key k told t =
         let not-far = lt-leb 0x8000_0000 (offset origin time) (omega (arith, at)) in
         rw (says .unrefused, not-far, k, t, at, says .code-is, says .end-is, says .volume-is, says .duration-is)

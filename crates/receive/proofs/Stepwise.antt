@@ -10,7 +10,7 @@ use lib.ListN.{length, take, drop}
 use Rattle.model.specs.declared.Head.{Head}
 use Rattle.model.specs.declared.Received.{Received}
 use Rattle.model.specs.Packet.{headerRefusal, afterHeader, marker, payloadType, timestamp, ssrc}
-use Rattle.model.specs.Receive.{refusedWith}
+use Rattle.model.specs.Receive.{arrivalIn, refusalFor, refusedWith}
 use Rattle.model.proofs.Basics.{both-none}
 use Rattle.packet.specs.declared.header.Header.{Header}
 use Rattle.packet.specs.declared.header.Header.the-variants as header
@@ -19,8 +19,8 @@ use Rattle.packet.proofs.Laws.{chose-first, chose-second, Found, found-says, re
 use Rattle.table.specs.Columns.{Takes}
 use Rattle.receive.specs.declared.hearing.Hearing.{Hearing}
 use Rattle.receive.specs.declared.hearing.Hearing.the-variants as hearing
-use Rattle.receive.specs.Sayings.{hearingOf}
-use Rattle.receive.specs.Steps.{refusalFor, headerFor, hearingIn, TakesHeard}
+use Rattle.receive.specs.Sayings.{arrival, hearingOf}
+use Rattle.receive.specs.Steps.{headerFor, hearingIn, TakesHeard}
 
 -- THE HEADER OF A PACKET THAT IS THE TABLE'S
 
@@ -85,8 +85,8 @@ module _ (h : Head) (bs : List ℕ) (f : Header) (stage : f ≡ headerFor h bs) 
     within = ends-within bs f read start end r
 
     pub heard-it : (time : ℕ) → time ≡ timestamp bs → (m : Bool) → m ≡ marker bs → (said : Hearing)
-        → said ≡ hearingOf (h .origin) time m (take (end - start) (drop start bs)) → said ≡ hearingIn h bs
-    unfolding hearingIn
+        → said ≡ hearingOf (h .origin) (arrival time m (take (end - start) (drop start bs))) → said ≡ hearingIn h bs
+    unfolding hearingIn arrivalIn
     heard-it time is-time m is-m said e = e ∙ rw (payload-there bs f read start end r, is-time, is-m, unrefused)
 
 -- THE TABLE

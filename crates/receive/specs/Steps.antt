@@ -1,16 +1,16 @@
 -- The three steps of receiving: the header of a packet that is the table's, its payload, and the table.
 use Prim.Native.Nat.{ℕ}
 use mathlib.Core.Path.{_≡_}
-use mathlib.Core.Bool.{not, cond}
+use mathlib.Core.Bool.{cond}
 use mathlib.Core.List.{List}
 use lib.Dec.{eqb}
 use Rattle.model.specs.declared.Head.{Head}
 use Rattle.model.specs.declared.Table.{Table}
 use Rattle.model.specs.declared.Received.{Received}
-use Rattle.model.specs.Refusals.{otherPayloadType, otherSsrc, none, _if_else_, _orElse_}
-use Rattle.model.specs.Packet.{headerRefusal, afterHeader, payload, marker, payloadType, timestamp, ssrc}
+use Rattle.model.specs.Refusals.{none}
+use Rattle.model.specs.Packet.{afterHeader}
 use Rattle.model.specs.Table.{segmentOf, tableOf, holding}
-use Rattle.model.specs.Receive.{Receiving, refusing}
+use Rattle.model.specs.Receive.{arrivalIn, refusalFor, Receiving, refusing}
 use Rattle.packet.specs.declared.header.Header.{Header}
 use Rattle.packet.specs.declared.header.Header.the-variants as header
 use Rattle.packet.specs.Stages.{payloadEnd}
@@ -19,20 +19,13 @@ use Rattle.receive.specs.declared.hearing.Hearing.{Hearing}
 use Rattle.receive.specs.declared.hearing.Hearing.the-variants as hearing
 use Rattle.receive.specs.Sayings.{hearingOf}
 
--- 1 to 4, 5 and 6
-unfoldable pub refusalFor : Head → List ℕ → ℕ
-refusalFor h bs =
-    headerRefusal bs orElse
-    otherPayloadType if not (eqb (payloadType bs) (h .«payload_type»)) else
-    otherSsrc if not (eqb (ssrc bs) (h .ssrc)) else
-    none
-
+-- 1 to 6
 unfoldable pub headerFor : Head → List ℕ → Header
 headerFor h bs = cond (eqb (refusalFor h bs) none) (header.Found (afterHeader bs) (payloadEnd bs)) (header.Refused (refusalFor h bs))
 
 -- then 17 or 7, and 8 to 10
 unfoldable pub hearingIn : Head → List ℕ → Hearing
-hearingIn h bs = cond (eqb (refusalFor h bs) none) (hearingOf (h .origin) (timestamp bs) (marker bs) (payload bs)) (hearing.Refused (refusalFor h bs))
+hearingIn h bs = cond (eqb (refusalFor h bs) none) (hearingOf (h .origin) (arrivalIn bs)) (hearing.Refused (refusalFor h bs))
 
 -- then 11
 abbrev pub takenHeard : Table → Hearing → Receiving

@@ -1,7 +1,7 @@
 // What a payload says, at its timestamp and with its marker, as it is heard from an origin. No table takes part.
 ghost use mathlib.Core.Path.{_≡_};
 ghost use Rattle.model.specs.Receive.{offset};
-ghost use Rattle.receive.specs.Sayings.{hearingOf};
+ghost use Rattle.receive.specs.Sayings.{arrival, hearingOf};
 use packet::payload::Payload;
 use packet::payload::payload_of;
 use packet::payload::payload_refusal;
@@ -14,19 +14,19 @@ pub enum Hearing {
     Refused(u8),
 }
 
-// (timestamp - origin) modulo 2^32.
-fn offset_of(origin: u32, timestamp: u32) -> u32
-    ensures { λ r. ⌜ r ≡ offset origin timestamp ⌝ }
+// (timestamp - n) modulo 2^32.
+pub fn minus(timestamp: u32, n: u32) -> u32
+    ensures { λ r. ⌜ r ≡ offset n timestamp ⌝ }
 {
-    if origin <= timestamp {
-        return timestamp - origin;
+    if n <= timestamp {
+        return timestamp - n;
     }
-    timestamp + (0xffff_ffff - origin) + 1
+    timestamp + (0xffff_ffff - n) + 1
 }
 
 // Hears a payload, or refuses it with 17 or 7, or with 8 to 10.
 pub fn hear(origin: u32, timestamp: u32, marked: bool, payload: &[u8]) -> Hearing
-    ensures { λ r. ⌜ r ≡ hearingOf origin timestamp marked (now (payload .entry)) ⌝ }
+    ensures { λ r. ⌜ r ≡ hearingOf origin (arrival timestamp marked (now (payload .entry))) ⌝ }
 {
     let read = payload_of(payload);
     let Payload::Heard {
@@ -38,7 +38,7 @@ pub fn hear(origin: u32, timestamp: u32, marked: bool, payload: &[u8]) -> Hearin
     else {
         return Hearing::Refused(payload_refusal(read));
     };
-    let offset = offset_of(origin, timestamp);
+    let offset = minus(timestamp, origin);
     if 0x8000_0000 <= offset {
         return Hearing::Refused(model::OFFSET_TOO_LARGE);
     }

@@ -4,17 +4,36 @@ ghost use mathlib.Core.Path.{_≡_};
 ghost use mathlib.Core.Bool.{true};
 ghost use Rattle.model.specs.Table.{tableOf, holding, valid};
 ghost use Rattle.model.specs.Receive.{receive};
-ghost use Rattle.receive.specs.Receives.{Receives};
+ghost use Rattle.receive.specs.Receives.{Receives, HearsInto};
 
-mod hearing;
+pub mod hearing;
 mod steps;
 
+use hearing::hear;
 use model::Head;
 use model::Received;
 use steps::header_for;
 use steps::hear_in;
 use steps::take_heard;
 use table::refused;
+
+// Hears a payload at its timestamp, marked or not, and takes it into a table that passes the tests, and leaves one that passes them;
+// or refuses it with 7 to 11 or 17, and the table is as it was.
+pub fn hear_into(
+    head: Head,
+    keys: &mut [u64; 128],
+    heard: &mut [u32; 128],
+    timestamp: u32,
+    marked: bool,
+    payload: &[u8],
+) -> Received
+    requires { ⌜ valid (tableOf head (now keys) (now heard)) ≡ true ⌝ }
+    ensures { λ r. ⌜ HearsInto head (now (keys .entry)) (now (heard .entry)) timestamp marked (now (payload .entry))
+        r (now (keys .exit)) (now (heard .exit)) ⌝ }
+{
+    let said = hear(head.origin, timestamp, marked, payload);
+    take_heard(head, keys, heard, said)
+}
 
 // Receives a packet into a table that passes the tests, and leaves one that passes them: its report is taken, or it is refused
 // with 1 to 11 or 17, and the table is as it was.

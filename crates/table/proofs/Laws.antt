@@ -2,23 +2,52 @@
 use Prim.Native.Nat.{ℕ, _≤_, _<_}
 use mathlib.Core.Path.{_≡_}
 use mathlib.Core.List.{List}
-use mathlib.Core.Bool.{false, _&&_}
+use mathlib.Core.Bool.{true, false, _&&_}
 use lib.Dec.{ltb, eqb}
 use lib.ListN.{getD}
 use borrow.Author.Needs.{needs}
-use borrow.Author.Tests.{lt-ltb, le-ltb}
+use borrow.Author.Tests.{lt-ltb, le-ltb, le-leb, lt-leb, eq-eqb, ne-eqb}
+use Rattle.model.specs.declared.Head.{Head}
 use Rattle.model.specs.declared.Table.{Table}
-use Rattle.model.specs.Table.{emptyTable, opened}
+use Rattle.model.specs.declared.Opened.{Opened}
+use Rattle.model.specs.Table.{oneType, bothTypes, emptyTable, openedIf, opened, openedBoth}
 use Rattle.table.proofs.Halving.{search-starts, search-ends, search-up, search-down}
 use Rattle.table.proofs.Takes.{count-within, merges-within, known, full, inserts-within, new}
 use Rattle.table.proofs.Shifts.{opening-starts, opening-goes-on, put-in, stores, stored-length}
 
-module _ (type ssrc origin : ℕ) (t : Table) where
-  pub type-high : 127 < type → t ≡ emptyTable 0 0 0 → record { table = t; refusal = 12 } ≡ opened type ssrc origin
-  type-high h e = rw (lt-ltb 127 type h, e)
+-- OPENING
 
-  pub type-fits : type ≤ 127 → t ≡ emptyTable type ssrc origin → record { table = t; refusal = 0 } ≡ opened type ssrc origin
-  type-fits h e = rw (le-ltb 127 type h, e)
+module _ (t : Table) where
+  pub accepts : (h : Head) → t ≡ emptyTable h → record { table = t; refusal = 0 } ≡ openedIf true h
+  accepts h e = rw e
+
+  pub refuses : (h : Head) → h ≡ oneType 0 0 0 → t ≡ emptyTable h → record { table = t; refusal = 12 } ≡ openedIf false (oneType 0 0 0)
+  refuses h z e = rw (e, z)
+
+module _ (type ssrc origin : ℕ) (r : Opened) where
+  pub type-high : 127 < type → r ≡ openedIf false (oneType 0 0 0) → r ≡ opened type ssrc origin
+  type-high h e = rw (lt-leb type 127 h, e)
+
+  pub type-fits : type ≤ 127 → (h : Head) → h ≡ oneType type ssrc origin → r ≡ openedIf true h → r ≡ opened type ssrc origin
+  type-fits low h is e = rw (le-leb type 127 low, e, is)
+
+module _ (type redundant ssrc origin : ℕ) (r : Opened) where
+  module _ (e : r ≡ openedIf false (oneType 0 0 0)) where
+    pub event-high : 127 < type → r ≡ openedBoth type redundant ssrc origin
+    event-high h = rw (lt-leb type 127 h, e)
+
+    module _ (low : type ≤ 127) where
+      pub redundant-high : 127 < redundant → r ≡ openedBoth type redundant ssrc origin
+      redundant-high h = rw (le-leb type 127 low, lt-leb redundant 127 h, e)
+
+      pub types-equal : redundant ≤ 127 → type ≡ redundant → r ≡ openedBoth type redundant ssrc origin
+      types-equal h q = rw (le-leb type 127 low, le-leb redundant 127 h, eq-eqb type redundant q, e)
+
+  pub types-fit : type ≤ 127 → redundant ≤ 127 → (type ≡ redundant → ⊥) → (h : Head) → h ≡ bothTypes type redundant ssrc origin
+      → r ≡ openedIf true h → r ≡ openedBoth type redundant ssrc origin
+  types-fit low also n h is e = rw (le-leb type 127 low, le-leb redundant 127 also, ne-eqb type redundant n, e, is)
+
+-- SEARCHING
 
 module _ (keys : List ℕ) (n i k : ℕ) where
   pub not-there : n ≤ i → false ≡ (ltb i n && eqb (getD keys i 0) k)
@@ -29,8 +58,14 @@ module _ (keys : List ℕ) (n i k : ℕ) where
 
 pub ruleset receiving = (
   needs,
+  accepts,
+  refuses,
   type-high,
   type-fits,
+  event-high,
+  redundant-high,
+  types-equal,
+  types-fit,
   opening-starts,
   opening-goes-on,
   put-in,

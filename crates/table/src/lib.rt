@@ -4,5 +4,6 @@ mod places;
 mod taking;
 
 pub use opening::open;
+pub use opening::open_redundant;
 pub use taking::refused;
 pub use taking::take;

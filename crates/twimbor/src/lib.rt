@@ -5,22 +5,30 @@ ghost use mathlib.Core.Path.{_≡_};
 ghost use Rattle.model.specs.Refusals.{noReport, noEvent};
 ghost use Rattle.model.specs.Packet.{read, write};
 ghost use Rattle.model.specs.Plan.{reportCount, writeReport};
-ghost use Rattle.model.specs.Table.{valid, opened, tableOf, holding};
+ghost use Rattle.model.specs.Table.{valid, opened, openedBoth, tableOf, holding};
 ghost use Rattle.model.specs.Receive.{receive};
+ghost use Rattle.model.specs.Walk.{walkStart, blockStep};
+ghost use Rattle.model.specs.Redundant.{receiveRedundant};
+ghost use Rattle.model.specs.WriteRedundant.{writeRedundant};
 ghost use Rattle.model.specs.Capture.{receiveCapture};
 ghost use Rattle.model.specs.List.{eventAt, list};
 ghost use Rattle.twimbor.specs.Results.{readResult, countResult, eventResult};
+use model::BlockStep;
+use model::BlocksReceived;
 use model::Captured;
 use model::CountAnswer;
+use model::Cursor;
 use model::Event;
 use model::EventAnswer;
 use model::Head;
 use model::Listed;
+use model::OlderReport;
 use model::Opened;
 use model::Plan;
 use model::ReadAnswer;
 use model::Received;
 use model::Report;
+use model::WalkStart;
 use model::WriteAnswer;
 
 // A report, or the number of the refusal and zeros.
@@ -143,6 +151,20 @@ pub extern "C" fn twimbor_open_table(payload_type: u32, ssrc: u32, origin: u32) 
     table::open(payload_type, ssrc, origin)
 }
 
+// An empty table for the event's payload type, that of redundant packets and one SSRC, or 12 with a table of zeros if one of the
+// types is above 127 or they are equal.
+#[no_mangle]
+pub extern "C" fn twimbor_open_redundant_table(
+    payload_type: u32,
+    redundant_type: u32,
+    ssrc: u32,
+    origin: u32,
+) -> Opened
+    ensures { λ r. ⌜ r ≡ openedBoth «payload_type» «redundant_type» ssrc origin ⌝ }
+{
+    table::open_redundant(payload_type, redundant_type, ssrc, origin)
+}
+
 // Whether a table passes the tests of refusal 16.
 #[no_mangle]
 pub extern "C" fn twimbor_is_valid_columns<'a>(
@@ -186,6 +208,63 @@ pub extern "C" fn twimbor_receive_capture_columns(
         ≡ receiveCapture (tableOf head (now (keys .entry)) (now (heard .entry))) (now (frames .entry)) .table ⌝ }
 {
     capture::receive_capture(head, keys, heard, frames)
+}
+
+// Receives a packet that may be redundant: each block of the event's type, a plain packet being one, is taken or refused with 7 to 11 or
+// 17 by itself, with its answer in an entry. Or the packet is refused whole, with 16, 1 to 6, 18, 19 or 15, and table and entries are as
+// they were. The answer's count is the table's from then on.
+#[no_mangle]
+pub extern "C" fn twimbor_receive_redundant_columns(
+    head: Head,
+    keys: &mut [u64; 128],
+    heard: &mut [u32; 128],
+    packet: &[u8],
+    entries: &mut [u32],
+) -> BlocksReceived
+    ensures { λ r. ⌜ r ≡ receiveRedundant (tableOf head (now (keys .entry)) (now (heard .entry))) (now (packet .entry)) (now (entries .entry)) .answer ⌝ }
+    ensures { λ r. ⌜ tableOf (holding (r .count) head) (now (keys .exit)) (now (heard .exit))
+        ≡ receiveRedundant (tableOf head (now (keys .entry)) (now (heard .entry))) (now (packet .entry)) (now (entries .entry)) .table ⌝ }
+    ensures { λ r. ⌜ now (entries .exit)
+        ≡ receiveRedundant (tableOf head (now (keys .entry)) (now (heard .entry))) (now (packet .entry)) (now (entries .entry)) .entries ⌝ }
+{
+    redundant::receive_redundant(head, keys, heard, packet, entries)
+}
+
+// Where the walk over a packet's blocks starts, or 1 to 4, 18 or 19 and a cursor at which there is no block.
+#[no_mangle]
+pub extern "C" fn twimbor_walk_start(packet: &[u8]) -> WalkStart
+    ensures { λ r. ⌜ r ≡ walkStart (now (packet .entry)) ⌝ }
+{
+    blocks::step::walk_start(packet)
+}
+
+// The block at a cursor, whatever its numbers, and the cursor after it.
+#[no_mangle]
+pub extern "C" fn twimbor_block_step(packet: &[u8], cursor: Cursor) -> BlockStep
+    ensures { λ r. ⌜ r ≡ blockStep (now (packet .entry)) cursor ⌝ }
+{
+    blocks::step::block_step(packet, cursor)
+}
+
+// Writes a redundant packet of a report and of 0, 1 or 2 older ones, which stand before it in the order given, at the start of the
+// output, or answers 12 or 14 and leaves the output as it is.
+#[no_mangle]
+pub extern "C" fn twimbor_write_redundant(
+    r: Report,
+    redundant_type: u32,
+    count: u32,
+    first: OlderReport,
+    second: OlderReport,
+    out: &mut [u8],
+) -> u8
+    ensures { λ n. ⌜ n ≡ writeRedundant r «redundant_type» count first second (now (out .entry)) .answer .number ⌝ }
+    ensures { λ n. ⌜ now (out .exit) ≡ writeRedundant r «redundant_type» count first second (now (out .entry)) .output ⌝ }
+{
+    let a = block_writer::write_redundant(r, redundant_type, count, first, second, out);
+    match a {
+        WriteAnswer::Written => 0,
+        WriteAnswer::Refused(refusal) => refusal,
+    }
 }
 
 // The event at number k, counted from 1 by start, then code, or 16 or 13.

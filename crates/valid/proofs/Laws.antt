@@ -12,7 +12,7 @@ use Rattle.valid.proofs.Gathers.{
   volume-too-high,
   heard-by-none,
 }
-use Rattle.valid.proofs.Tests.{too-many, wrong-type, keys-fail, by-heard}
+use Rattle.valid.proofs.Tests.{too-many, type-high, one-type, redundant-high, both-tested, wrong-types, keys-fail, by-heard}
 
 pub ruleset testing = (
   needs,
@@ -27,7 +27,11 @@ pub ruleset testing = (
   volume-too-high,
   heard-by-none,
   too-many,
-  wrong-type,
+  type-high,
+  one-type,
+  redundant-high,
+  both-tested,
+  wrong-types,
   keys-fail,
   by-heard,
 )

@@ -3,7 +3,7 @@
 // the gathered bits tells whether one number is too large.
 ghost use mathlib.Core.Path.{_≡_};
 ghost use Prim.Native.Nat.{_≤_};
-ghost use Rattle.model.specs.Table.{valid, tableOf};
+ghost use Rattle.model.specs.Table.{validTypes, valid, tableOf};
 ghost use Rattle.valid.specs.Passes.{KeysPass, HeardPass, Tells};
 use model::Head;
 use std::num::wrapping_sub_u32;
@@ -56,8 +56,25 @@ fn heard_pass(heard: &[u32; 128], n: usize) -> bool
     none < 0x8000_0000
 }
 
-// Whether a table passes the tests: at most 128 segments held, a payload type up to 127, every segment within its ranges
-// and after the one before it, by offset, then code.
+// Whether a table's payload types pass: the event's is up to 127, and so is that of redundant packets, if the table was opened for
+// both, and they differ.
+fn types_pass(head: Head) -> bool
+    ensures { λ r. ⌜ r ≡ validTypes head ⌝ }
+{
+    if 127 < head.payload_type {
+        return false;
+    }
+    if head.both_types == 0 {
+        return true;
+    }
+    if 127 < head.redundant_type {
+        return false;
+    }
+    head.payload_type != head.redundant_type
+}
+
+// Whether a table passes the tests: at most 128 segments held, the payload types, every segment within its ranges and after the one
+// before it, by offset, then code.
 pub fn is_valid<'a>(head: Head, keys: &'a [u64; 128], heard: &'a [u32; 128]) -> bool
     ensures { λ r. ⌜ r ≡ valid (tableOf head (now (keys .entry)) (now (heard .entry))) ⌝ }
 {
@@ -65,7 +82,7 @@ pub fn is_valid<'a>(head: Head, keys: &'a [u64; 128], heard: &'a [u32; 128]) -> 
     if 128 < n {
         return false;
     }
-    if 127 < head.payload_type {
+    if !types_pass(head) {
         return false;
     }
     if !keys_pass(keys, n) {

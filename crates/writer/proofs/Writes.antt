@@ -1,19 +1,19 @@
--- The laws of writing: the ranges of refusal 12 test by test, the 16 bytes byte by byte, and storing them one after another.
+-- The laws of writing: the ranges of refusal 12 test by test, a packet's pieces byte by byte, and putting them into the output.
 use Prim.Native.Nat.{ℕ, suc, _+_, _*_, _/_, _%_, _≤_, _<_}
 use mathlib.Core.Path.{_≡_, refl, sym, _∙_, ap}
 use mathlib.Core.Bool.{Bool, true, false, not}
-use mathlib.Core.List.{List, [], _∷_, _++_}
+use mathlib.Core.List.{List, [], _∷_, _++_, append-assoc}
 use native.Mathlib.Omega.{arith}
 use borrow.Author.Needs.{needs}
 use borrow.Author.Tests.{lt-leb, le-leb, lt-ltb, le-ltb, not-true, not-false}
 use lib.Dec.{leb}
 use lib.ListN.{length, getD, set, take, drop, length-set}
-use lib.Seq.{take-all, paste-suc}
+use lib.Seq.{take-all, drop-drop, paste, paste-zero, paste-suc}
 use Rattle.model.specs.declared.Report.{Report}
 use Rattle.model.specs.Refusals.{answered, refusedBy}
-use Rattle.model.specs.Packet.{bit, packetOf, reportInRange, write}
+use Rattle.model.specs.Packet.{bit, headerBytes, payloadBytes, packetOf, reportInRange, write}
 use Rattle.model.proofs.Packets.{ranges}
-use Rattle.writer.specs.Ranges.{InRange}
+use Rattle.writer.specs.Pieces.{PayloadInRange, putAt}
 
 -- RANGES
 
@@ -49,54 +49,66 @@ flag-set flag low e = rw e
 pub flag-clear : (flag : Bool) (low : ℕ) → flag ≡ false → low ≡ bit flag * 128 + low
 flag-clear flag low e = rw e (omega arith)
 
--- the 16 bytes, each from the halves and bytes of its number
-pub bytes-written : (r : Report) (marked ended q₁ q₀ t₁ t₀ t₃ t₂ t₅ t₄ c₁ c₀ c₃ c₂ c₅ c₄ d₁ d₀ : ℕ)
-    → marked ≡ bit (r .marker) * 128 + r .«payload_type» → q₁ ≡ r .sequence / 256 % 256 → q₀ ≡ r .sequence % 256
+-- each byte from the halves and bytes of its number
+pub header-bytes : (r : Report) (type marked q₁ q₀ t₁ t₀ t₃ t₂ t₅ t₄ c₁ c₀ c₃ c₂ c₅ c₄ : ℕ)
+    → marked ≡ bit (r .marker) * 128 + type → q₁ ≡ r .sequence / 256 % 256 → q₀ ≡ r .sequence % 256
     → t₁ ≡ r .timestamp / 65536 → t₀ ≡ r .timestamp % 65536 → t₃ ≡ t₁ / 256 % 256 → t₂ ≡ t₁ % 256 → t₅ ≡ t₀ / 256 % 256 → t₄ ≡ t₀ % 256
     → c₁ ≡ r .ssrc / 65536 → c₀ ≡ r .ssrc % 65536 → c₃ ≡ c₁ / 256 % 256 → c₂ ≡ c₁ % 256 → c₅ ≡ c₀ / 256 % 256 → c₄ ≡ c₀ % 256
-    → ended ≡ bit (r .ended) * 128 + r .volume → d₁ ≡ r .duration / 256 % 256 → d₀ ≡ r .duration % 256
-    → 128 ∷ marked ∷ q₁ ∷ q₀ ∷ t₃ ∷ t₂ ∷ t₅ ∷ t₄ ∷ c₃ ∷ c₂ ∷ c₅ ∷ c₄ ∷ r .code ∷ ended ∷ d₁ ∷ d₀ ∷ [] ≡ packetOf r
-unfolding packetOf
-bytes-written r marked ended q₁ q₀ t₁ t₀ t₃ t₂ t₅ t₄ c₁ c₀ c₃ c₂ c₅ c₄ d₁ d₀ a b c d e f g h i j k l m n o p q s =
-    rw (f, g, h, i, d, e, l, m, n, o, j, k, a, b, c, p, q, s)
+    → 128 ∷ marked ∷ q₁ ∷ q₀ ∷ t₃ ∷ t₂ ∷ t₅ ∷ t₄ ∷ c₃ ∷ c₂ ∷ c₅ ∷ c₄ ∷ [] ≡ headerBytes r type
+header-bytes r type marked q₁ q₀ t₁ t₀ t₃ t₂ t₅ t₄ c₁ c₀ c₃ c₂ c₅ c₄ a b c d e f g h i j k l m n o =
+    rw (f, g, h, i, d, e, l, m, n, o, j, k, a, b, c)
 
--- STORING
+pub payload-bytes : (code volume duration marked d₁ d₀ : ℕ) (ended : Bool)
+    → marked ≡ bit ended * 128 + volume → d₁ ≡ duration / 256 % 256 → d₀ ≡ duration % 256
+    → code ∷ marked ∷ d₁ ∷ d₀ ∷ [] ≡ payloadBytes code ended volume duration
+payload-bytes code volume duration marked d₁ d₀ ended a b c = rw (a, b, c)
 
--- after i turns the output's first i bytes are the packet's, and the rest is as it was
-pub record Stored (p before output : List ℕ) (i : ℕ) : Type 0 where
-  pub within : i ≤ 16
+-- PUTTING A PIECE
+
+-- after i turns the piece's first i bytes stand at its place, and the other bytes are as they were
+pub record Putting (p before output : List ℕ) (at i : ℕ) : Type 0 where
+  pub within : i ≤ length p
   pub as-long : length output ≡ length before
-  pub so-far : output ≡ take i p ++ drop i before
+  pub so-far : output ≡ paste before at p i
 
-module _ (p before : List ℕ) where
-  pub none-stored : Stored p before before 0
-  none-stored = record { within = omega arith; as-long = refl; so-far = refl }
+module _ (p before : List ℕ) (at : ℕ) where
+  pub none-put : Putting p before before at 0
+  none-put = record { within = omega arith; as-long = refl; so-far = paste-zero before at p }
 
-  module _ (output : List ℕ) (i : ℕ) (s : Stored p before output i) (sixteen : length p ≡ 16) where
-    pub one-more : 16 ≤ length before → i < 16 → Stored p before (set output i (getD p i 0)) (i + 1)
+  module _ (output : List ℕ) (i : ℕ) (s : Putting p before output at i) where
+    pub one-more : at + length p ≤ length before → i < length p → Putting p before (set output (at + i) (getD p i 0)) at (i + 1)
     one-more room h =
-        let z : 0 + i ≡ i = omega arith in
-        let y : 0 + suc i ≡ i + 1 = omega arith in
         let x : suc i ≡ i + 1 = omega arith in
         record {
           within = omega arith;
-          as-long = length-set output i (getD p i 0) ∙ s .as-long;
-          so-far = ap (λ (l : List ℕ). set l i (getD p i 0)) (s .so-far)
-              ∙ ap (λ (n : ℕ). set (take i p ++ drop n before) n (getD p i 0)) (sym z)
-              ∙ paste-suc before 0 p i 0 (omega arith) (omega arith)
-              ∙ (λ j. take (x j) p ++ drop (y j) before);
+          as-long = length-set output (at + i) (getD p i 0) ∙ s .as-long;
+          so-far = ap (λ (l : List ℕ). set l (at + i) (getD p i 0)) (s .so-far)
+              ∙ paste-suc before at p i 0 (omega arith) h
+              ∙ ap (paste before at p) x;
         }
 
-    pub all-stored : 16 ≤ i → output ≡ p ++ drop 16 before
-    all-stored h =
-        let e : i ≡ 16 = omega arith in
-        s .so-far ∙ rw e (ap (λ (l : List ℕ). l ++ drop 16 before) (take-all 16 p (omega arith)))
+    pub all-put : length p ≤ i → output ≡ putAt p at before
+    unfolding putAt
+    all-put h =
+        let e : i ≡ length p = omega arith in
+        s .so-far
+        ∙ ap (paste before at p) e
+        ∙ append-assoc (take at before) (take (length p) p) (drop (at + length p) before)
+        ∙ ap (λ (l : List ℕ). take at before ++ (take (length p) p ++ l)) (sym (drop-drop (length p) at before))
+        ∙ ap (λ (l : List ℕ). take at before ++ (l ++ drop (length p) (drop at before))) (take-all (length p) p (omega arith))
+
+pub piece-put : (p q before after : List ℕ) (at : ℕ) → p ≡ q → after ≡ putAt p at before → after ≡ putAt q at before
+piece-put p q before after at e h = rw (← e) h
 
 -- THE CALL
 
 module _ (r : Report) where
-  pub range-asked : (b : Bool) → b ≡ reportInRange r → not b ≡ false → InRange r
-  range-asked b e h = let k = ranges r (sym e ∙ not-false b h) in record { type = k .type; code = k .code; volume = k .volume; duration = k .most }
+  module _ (b : Bool) (e : b ≡ reportInRange r) (h : not b ≡ false) where
+    pub type-asked : r .«payload_type» ≤ 127
+    type-asked = ranges r (sym e ∙ not-false b h) .type
+
+    pub payload-asked : PayloadInRange (r .code) (r .volume) (r .duration)
+    payload-asked = let k = ranges r (sym e ∙ not-false b h) in record { code = k .code; volume = k .volume; duration = k .most }
 
   -- for each way what is answered, and the output after it
   module _ (output : List ℕ) (b : Bool) (e : b ≡ reportInRange r) where
@@ -124,9 +136,11 @@ module _ (r : Report) where
         unfolding write
         written = rw (← e, not-false b h, le-ltb (length output) 16 k)
 
-        pub written-after : (p after : List ℕ) → p ≡ packetOf r → after ≡ p ++ drop 16 output → after ≡ write r output .output
-        unfolding write
-        written-after p after x y = rw (← e, not-false b h, le-ltb (length output) 16 k, ← x) y
+        pub written-after : (one after : List ℕ) → one ≡ putAt (headerBytes r (r .«payload_type»)) 0 output
+            → after ≡ putAt (payloadBytes (r .code) (r .ended) (r .volume) (r .duration)) 12 one → after ≡ write r output .output
+        unfolding write packetOf putAt
+        written-after one after x y =
+            rw (← e, not-false b h, le-ltb (length output) 16 k) (y ∙ rw x (ap (λ (l : List ℕ). packetOf r ++ l) (drop-drop 4 12 output)))
 
 pub ruleset writing = (
   needs,
@@ -137,11 +151,14 @@ pub ruleset writing = (
   duration-tested,
   flag-set,
   flag-clear,
-  bytes-written,
-  none-stored,
+  header-bytes,
+  payload-bytes,
+  none-put,
   one-more,
-  all-stored,
-  range-asked,
+  all-put,
+  piece-put,
+  type-asked,
+  payload-asked,
   range-refused,
   range-refused-stays,
   output-refused,

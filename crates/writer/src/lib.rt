@@ -1,42 +1,40 @@
 // Writing a report's 16 bytes into a lent output.
 ghost use mathlib.Core.Path.{_≡_};
-ghost use mathlib.Core.List.{_++_};
 ghost use Prim.Native.Nat.{_+_, _*_, _/_, _%_, _≤_};
-ghost use lib.ListN.{length, drop};
+ghost use lib.ListN.{length};
 ghost use Rattle.model.specs.Refusals.{toldWrite};
-ghost use Rattle.model.specs.Packet.{bit, packetOf, reportInRange, write};
-ghost use Rattle.writer.specs.Ranges.{InRange};
+ghost use Rattle.model.specs.Packet.{bit, headerBytes, payloadBytes, reportInRange, write};
+ghost use Rattle.writer.specs.Pieces.{PayloadInRange, putAt};
 use model::Report;
 use model::WriteAnswer;
-
 // The upper and the lower byte of 16 bits.
-fn upper(x: u16) -> u8
+pub fn upper(x: u16) -> u8
     ensures { λ r. ⌜ r ≡ x / 256 % 256 ⌝ }
 {
     (x / 256 % 256) as u8
 }
 
-fn lower(x: u16) -> u8
+pub fn lower(x: u16) -> u8
     ensures { λ r. ⌜ r ≡ x % 256 ⌝ }
 {
     (x % 256) as u8
 }
 
 // The upper and the lower half of 32 bits.
-fn upper_half(x: u32) -> u16
+pub fn upper_half(x: u32) -> u16
     ensures { λ r. ⌜ r ≡ x / 65536 ⌝ }
 {
     (x / 65536) as u16
 }
 
-fn lower_half(x: u32) -> u16
+pub fn lower_half(x: u32) -> u16
     ensures { λ r. ⌜ r ≡ x % 65536 ⌝ }
 {
     (x % 65536) as u16
 }
 
 // A byte with a flag above seven bits.
-fn flagged(flag: bool, low: u32) -> u8
+pub fn flagged(flag: bool, low: u32) -> u8
     requires { ⌜ low ≤ 127 ⌝ }
     ensures { λ r. ⌜ r ≡ bit flag * 128 + low ⌝ }
 {
@@ -47,7 +45,7 @@ fn flagged(flag: bool, low: u32) -> u8
 }
 
 // Whether a report's numbers are in the ranges of refusal 12.
-fn in_range(r: Report) -> bool
+pub fn in_range(r: Report) -> bool
     ensures { λ b. ⌜ b ≡ reportInRange r ⌝ }
 {
     if 127 < r.payload_type {
@@ -65,19 +63,18 @@ fn in_range(r: Report) -> bool
     r.duration <= 65535
 }
 
-// The 16 bytes of a report in range: version 2, and P, X, CSRC count and R all 0.
-fn packet_of(r: Report) -> [u8; 16]
-    requires { ⌜ InRange r ⌝ }
-    ensures { λ p. ⌜ p ≡ packetOf r ⌝ }
+// The 12 bytes of a header with a report's numbers and a payload type: version 2, and P, X and CSRC count all 0.
+fn header_of(r: Report, payload_type: u32) -> [u8; 12]
+    requires { ⌜ «payload_type» ≤ 127 ⌝ }
+    ensures { λ h. ⌜ h ≡ headerBytes r «payload_type» ⌝ }
 {
     let t1 = upper_half(r.timestamp);
     let t0 = lower_half(r.timestamp);
     let s1 = upper_half(r.ssrc);
     let s0 = lower_half(r.ssrc);
-    let d = r.duration as u16;
     [
         128,
-        flagged(r.marker, r.payload_type),
+        flagged(r.marker, payload_type),
         upper(r.sequence),
         lower(r.sequence),
         upper(t1),
@@ -88,23 +85,46 @@ fn packet_of(r: Report) -> [u8; 16]
         lower(s1),
         upper(s0),
         lower(s0),
-        r.code as u8,
-        flagged(r.ended, r.volume),
-        upper(d),
-        lower(d),
     ]
 }
 
-// Puts 16 bytes at the start of the output; the bytes after them stay.
-fn store(p: [u8; 16], out: &mut [u8])
-    requires { ⌜ 16 ≤ length (now out) ⌝ }
-    ensures { λ _. ⌜ now (out .exit) ≡ p ++ drop 16 (now (out .entry)) ⌝ }
+// The 4 bytes of a payload: R is 0.
+fn payload_of(code: u32, ended: bool, volume: u32, duration: u32) -> [u8; 4]
+    requires { ⌜ PayloadInRange code volume duration ⌝ }
+    ensures { λ p. ⌜ p ≡ payloadBytes code ended volume duration ⌝ }
+{
+    let d = duration as u16;
+    [code as u8, flagged(ended, volume), upper(d), lower(d)]
+}
+
+// Puts bytes at a place of the output; the other bytes stay.
+pub fn put(p: &[u8], at: usize, out: &mut [u8])
+    requires { ⌜ at + length (now p) ≤ length (now out) ⌝ }
+    ensures { λ _. ⌜ now (out .exit) ≡ putAt (now (p .entry)) at (now (out .entry)) ⌝ }
 {
     let mut i = 0usize;
-    while i < 16 {
-        out[i] = p[i];
+    while i < p.len() {
+        out[at + i] = p[i];
         i += 1;
     }
+}
+
+pub fn put_header(r: Report, payload_type: u32, out: &mut [u8])
+    requires { ⌜ «payload_type» ≤ 127 ⌝ }
+    requires { ⌜ 12 ≤ length (now out) ⌝ }
+    ensures { λ _. ⌜ now (out .exit) ≡ putAt (headerBytes r «payload_type») 0 (now (out .entry)) ⌝ }
+{
+    let h = header_of(r, payload_type);
+    put(&h, 0, out);
+}
+
+pub fn put_payload(code: u32, ended: bool, volume: u32, duration: u32, at: usize, out: &mut [u8])
+    requires { ⌜ PayloadInRange code volume duration ⌝ }
+    requires { ⌜ at + 4 ≤ length (now out) ⌝ }
+    ensures { λ _. ⌜ now (out .exit) ≡ putAt (payloadBytes code ended volume duration) at (now (out .entry)) ⌝ }
+{
+    let p = payload_of(code, ended, volume, duration);
+    put(&p, at, out);
 }
 
 // Writes a report's 16 bytes at the start of the output, or refuses with 12 or 14 and leaves the output as it is.
@@ -118,7 +138,7 @@ pub fn write(r: Report, out: &mut [u8]) -> WriteAnswer
     if out.len() < 16 {
         return WriteAnswer::Refused(model::OUTPUT_TOO_SMALL);
     }
-    let p = packet_of(r);
-    store(p, out);
+    put_header(r, r.payload_type, out);
+    put_payload(r.code, r.ended, r.volume, r.duration, 12, out);
     WriteAnswer::Written
 }

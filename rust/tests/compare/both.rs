@@ -33,9 +33,10 @@ impl Both {
 
 /// The library's table that holds what one on paper does.
 pub fn library(paper: &Table) -> twimbor::Table {
-    let &Table { payload_type, ssrc, origin, count, ref segments } = paper;
+    let &Table { payload_type, both_types, redundant_type, ssrc, origin, count, ref segments } =
+        paper;
     twimbor::Table {
-        head: twimbor::Head { payload_type, ssrc, origin, count },
+        head: twimbor::Head { payload_type, both_types, redundant_type, ssrc, origin, count },
         keys: segments.each_ref().map(|segment| numbers(segment).0),
         heard: segments.each_ref().map(|segment| numbers(segment).1),
     }

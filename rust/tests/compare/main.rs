@@ -1,7 +1,8 @@
 //! The library compared with documents 01 and 02, written again from their text alone (`paper`), on
 //! random inputs, and in `probes` on every place of every number held: each answer, table field,
-//! place, and lent byte and record, also under a refusal.
+//! place, and lent byte, record and entry, also under a refusal.
 
+mod blocks;
 mod both;
 mod captures;
 mod lists;
@@ -12,11 +13,19 @@ mod paper;
 mod plans;
 mod probes;
 mod random;
+mod redundant;
+mod redundant_runs;
 mod runs;
 mod tables;
 mod tally;
 
 const _: () = assert!(
-    packets::INPUTS + plans::INPUTS + tables::INPUTS + lists::INPUTS >= 1_000_000,
-    "at least a million inputs are compared"
+    packets::INPUTS
+        + plans::INPUTS
+        + tables::INPUTS
+        + lists::INPUTS
+        + blocks::INPUTS
+        + redundant::INPUTS
+        >= 2_000_000,
+    "at least two million inputs are compared"
 );

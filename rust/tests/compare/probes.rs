@@ -3,7 +3,7 @@
 
 use crate::both::Both;
 use crate::paper::packet;
-use crate::paper::table::{Segment, Table};
+use crate::paper::table::{self, Segment, Table};
 use crate::tables::receive_counting;
 use std::array;
 use twimbor::{Report, Taken};
@@ -24,7 +24,8 @@ fn table(n: usize) -> Table {
         let (offset, code) = pair(place);
         Segment { offset: u64::from(offset), code, duration: 1, ..Segment::default() }
     });
-    Table { payload_type: 101, ssrc: 0x1122_3344, origin: 0xFFFF_FFF0, count: n, segments }
+    let (opened, _) = table::open(101, 0x1122_3344, 0xFFFF_FFF0);
+    Table { count: n, segments, ..opened }
 }
 
 /// The packet of a pair for a table.

@@ -14,7 +14,7 @@ const RUNS: usize = 4_000;
 
 /// Events that do not overlap, within 01's sizes for one table, each with its own segment size;
 /// often one right after another.
-fn events(random: &Random) -> Vec<(Event, u32)> {
+pub fn events(random: &Random) -> Vec<(Event, u32)> {
     let mut events = Vec::new();
     let mut room = random.pick(&[4, 30, 128]);
     let top = random.pick(&[0x7FFF_0000, 0x7FFF_FFC0]);
@@ -36,8 +36,11 @@ fn events(random: &Random) -> Vec<(Event, u32)> {
     }
 }
 
-/// The packets of an event that arrive: those needed, and some of the others, some several times.
-fn arriving(random: &Random, table: &Table, event: &Event, segment_size: u32) -> Vec<Vec<u8>> {
+/// A report that is sent, and its packet.
+pub type Sent = (Report, Vec<u8>);
+
+/// The reports of an event that arrive: those needed, and some of the others, some several times.
+pub fn arriving(random: &Random, table: &Table, event: &Event, segment_size: u32) -> Vec<Sent> {
     let often = (event.length / (1 + random.below(30))).clamp(1, 65_535);
     let plan = Plan {
         payload_type: u32::from(table.payload_type),
@@ -65,11 +68,11 @@ fn arriving(random: &Random, table: &Table, event: &Event, segment_size: u32) ->
     numbers.extend(all.filter(|_| random.below(100) < kept));
     numbers.extend(numbers.clone().into_iter().filter(|_| random.one_in(5)));
     numbers.sort();
-    numbers.into_iter().map(|i| packets[i].clone()).collect()
+    numbers.into_iter().map(|i| (reports[i], packets[i].clone())).collect()
 }
 
 /// Packets in another order: shuffled, moved a little, or as they are.
-fn reorder(random: &Random, packets: &mut [Vec<u8>]) {
+pub fn reorder<T>(random: &Random, packets: &mut [T]) {
     match random.below(3) {
         0 => random.shuffle(packets),
         1 => packets.chunks_mut(5).for_each(|chunk| random.shuffle(chunk)),
@@ -99,7 +102,8 @@ fn the_list_is_what_was_sent() {
         let mut both = Both::of(empty_table(random));
         let planned = events(random);
         let arrive = |(event, size): &(_, _)| arriving(random, &both.paper, event, *size);
-        let mut packets: Vec<_> = planned.iter().flat_map(arrive).collect();
+        let sent = planned.iter().flat_map(arrive);
+        let mut packets: Vec<_> = sent.map(|(_, packet)| packet).collect();
         reorder(random, &mut packets);
         for packet in &packets {
             assert!(receive(&mut both, packet).is_ok());

@@ -5,6 +5,9 @@ use Rattle.valid.proofs.is_valid.Tie as tie
 returns : tie.Need-returns
 returns c = search testing
 
+types-pass-requires : tie.Need-types-pass-requires
+types-pass-requires c κs = search testing
+
 returns-2 : tie.Need-returns-2
 returns-2 c = search testing
 
@@ -23,4 +26,11 @@ returns-4 c = search testing
 pub is-valid-spec : {M : Type 1} → statement M
 is-valid-spec =
     tie.close
-    (tie.spec returns returns-2 keys-pass-requires returns-3 heard-pass-requires returns-4)
+    (tie.spec
+    returns
+    types-pass-requires
+    returns-2
+    keys-pass-requires
+    returns-3
+    heard-pass-requires
+    returns-4)

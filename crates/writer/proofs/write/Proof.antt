@@ -12,11 +12,11 @@ returns c = search writing
 returns-2 : tie.Need-returns-2
 returns-2 c = search writing
 
-packet-of-requires : tie.Need-packet-of-requires
-packet-of-requires c κs = search writing
+put-header-requires : tie.Need-put-header-requires
+put-header-requires c κs = search writing
 
-store-requires : tie.Need-store-requires
-store-requires c κs = search writing
+put-payload-requires : tie.Need-put-payload-requires
+put-payload-requires c κs = search writing
 
 same-length : tie.Need-same-length
 same-length c = search writing
@@ -31,7 +31,7 @@ write-spec =
     in-range-requires
     returns
     returns-2
-    packet-of-requires
-    store-requires
+    put-header-requires
+    put-payload-requires
     same-length
     returns-3)

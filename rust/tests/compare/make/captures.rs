@@ -1,5 +1,6 @@
 //! Captures: frames of packets of every kind, one after another.
 
+use super::blocks::redundant_for;
 use super::packets::packet_for;
 use crate::paper::table::{Table, receive};
 use crate::random::Random;
@@ -9,13 +10,14 @@ pub fn framed(packet: &[u8]) -> Vec<u8> {
     [&length.to_be_bytes(), packet].concat()
 }
 
-/// So many frames for a table, most of them of packets for what it holds by then; some of any bytes
-/// or of none.
+/// So many frames for a table, most of them of packets for what it holds by then; some of redundant
+/// packets, of any bytes or of none.
 pub fn frames(random: &Random, table: &Table, n: usize) -> Vec<Vec<u8>> {
     let mut table = table.clone();
     let packet = || match random.below(16) {
         0 => random.bytes(random.index(300)),
         1 => Vec::new(),
+        2 => redundant_for(random, &table),
         _ => {
             let packet = packet_for(random, &table);
             let _ = receive(&mut table, &packet);

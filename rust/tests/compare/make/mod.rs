@@ -1,5 +1,6 @@
 //! Random inputs, most of them near the edges of 01's rules.
 
+pub mod blocks;
 pub mod captures;
 pub mod packets;
 pub mod tables;

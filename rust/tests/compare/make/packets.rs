@@ -5,11 +5,8 @@ use crate::paper::table::{Segment, Table};
 use crate::random::Random;
 use twimbor::Report;
 
-/// A packet that carries a report, with any form of header; now and then damaged, or just bytes.
-pub fn packet(random: &Random, report: &Report) -> Vec<u8> {
-    if random.one_in(32) {
-        return random.bytes(random.index(40));
-    }
+/// A packet with this payload and any form of header; the other numbers are the report's.
+pub fn carrying(random: &Random, report: &Report, payload: &[u8]) -> Vec<u8> {
     let (mut csrcs, mut words, mut pad) = (0, None, 0);
     if random.bool() {
         csrcs = random.index(16);
@@ -29,20 +26,34 @@ pub fn packet(random: &Random, report: &Report) -> Vec<u8> {
         packet.extend((words as u16).to_be_bytes());
         packet.extend(random.bytes(4 * words));
     }
-    let r_bit = u8::from(random.one_in(4)) << 6;
-    let mut payload =
-        vec![report.code as u8, u8::from(report.ended) << 7 | r_bit | report.volume as u8 & 63];
-    payload.extend((report.duration as u16).to_be_bytes());
-    if random.one_in(8) {
-        let packed = 4 * random.pick(&[2, 3, 1 + random.index(300)]);
-        let bytes = random.pick(&[random.index(13), packed - 1, packed, packed + 1]);
-        payload.resize_with(bytes, || random.u8());
-    }
     packet.extend(payload);
     if pad > 0 {
         packet.extend(random.bytes(pad - 1));
         packet.push(pad as u8);
     }
+    packet
+}
+
+/// The four bytes of a report, with any R.
+pub fn payload_of(random: &Random, report: &Report) -> Vec<u8> {
+    let r_bit = u8::from(random.one_in(4)) << 6;
+    let flags = u8::from(report.ended) << 7 | r_bit | report.volume as u8 & 63;
+    let [.., d0, d1] = report.duration.to_be_bytes();
+    vec![report.code as u8, flags, d0, d1]
+}
+
+/// A packet that carries a report, with any form of header; now and then damaged, or just bytes.
+pub fn packet(random: &Random, report: &Report) -> Vec<u8> {
+    if random.one_in(32) {
+        return random.bytes(random.index(40));
+    }
+    let mut payload = payload_of(random, report);
+    if random.one_in(8) {
+        let packed = 4 * random.pick(&[2, 3, 1 + random.index(300)]);
+        let bytes = random.pick(&[random.index(13), packed - 1, packed, packed + 1]);
+        payload.resize_with(bytes, || random.u8());
+    }
+    let mut packet = carrying(random, report, &payload);
     if random.one_in(4) {
         damage(random, &mut packet);
     }
@@ -66,6 +77,11 @@ pub fn damage(random: &Random, packet: &mut Vec<u8>) {
 
 /// A packet that mostly concerns a table's own segments, or the edges of what it takes.
 pub fn packet_for(random: &Random, table: &Table) -> Vec<u8> {
+    packet(random, &report_for(random, table))
+}
+
+/// The report of such a packet.
+pub fn report_for(random: &Random, table: &Table) -> Report {
     let held = &table.segments[..table.count.min(128)];
     let near = if held.is_empty() { Segment::default() } else { random.pick(held) };
     let offset = match random.below(8) {
@@ -86,5 +102,5 @@ pub fn packet_for(random: &Random, table: &Table) -> Vec<u8> {
     if random.bool() {
         report.code = u32::from(near.code);
     }
-    packet(random, &report)
+    report
 }

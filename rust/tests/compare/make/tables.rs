@@ -28,6 +28,17 @@ pub fn any_event(random: &Random) -> Event {
     }
 }
 
+/// The event's type, which opening it was, and the other type. Of the second opening every byte but
+/// 0 tells; in a table of the first the other type is any byte, and plays no part.
+fn types(random: &Random) -> (u8, u8, u8) {
+    let payload_type = random.below(128) as u8;
+    if random.bool() {
+        return (payload_type, 0, random.pick(&[0, 96, payload_type, 200, random.u8()]));
+    }
+    let other = (payload_type + 1 + random.below(127) as u8) % 128;
+    (payload_type, random.pick(&[1, 1, 2, 255, random.u8().max(1)]), other)
+}
+
 /// A valid table whose segments often continue one another, or miss it by one unit, with anything
 /// in the places above.
 pub fn table(random: &Random) -> Table {
@@ -57,8 +68,11 @@ pub fn table(random: &Random) -> Table {
     for (place, segment) in segments.iter_mut().zip(held.values()) {
         *place = *segment;
     }
+    let (payload_type, both_types, redundant_type) = types(random);
     Table {
-        payload_type: random.below(128) as u8,
+        payload_type,
+        both_types,
+        redundant_type,
         ssrc: random.u32(),
         origin: random.pick(&[0, 0xFFFF_FFF0, random.u32()]),
         count: wanted,
@@ -73,12 +87,13 @@ pub fn empty_table(random: &Random) -> Table {
 }
 
 /// A table with one test broken, often by one bit too high, or with any segment in one place. What
-/// is changed may be in a place that holds none; then the table stays valid.
+/// is changed may be in a place that holds none, or the other type of a table of the first opening;
+/// then the table stays valid.
 pub fn broken_table(random: &Random) -> Table {
     let mut table = table(random);
     let last = table.count.saturating_sub(1);
     let some = random.index(last + 1);
-    match random.below(9) {
+    match random.below(10) {
         0 => table.count = random.pick(&[129, 130, 255, 256, 1 << 31, 1 << 32, usize::MAX]),
         1 => table.payload_type = random.pick(&[128, 255]),
         2 => table.segments[some].code |= 16 << random.below(4),
@@ -87,6 +102,7 @@ pub fn broken_table(random: &Random) -> Table {
         5 => table.segments[some] = any_segment(random),
         6 => table.segments[last].offset |= 1 << (31 + random.below(25)),
         7 => table.segments[last] = table.segments[some],
+        8 => table.redundant_type = random.pick(&[128, 255, table.payload_type]),
         _ => table.segments.swap(last, some),
     }
     table

@@ -1,6 +1,6 @@
-//! "The receiving table", and its tests.
+//! "The receiving table", its two openings, and its tests.
 
-use super::packet::{header, report};
+use super::packet::{Header, header, report};
 use std::collections::BTreeMap;
 
 /// A segment. Its numbers are as wide as what a place of the library's table can say.
@@ -17,31 +17,54 @@ pub struct Segment {
 #[derive(Clone, Debug, PartialEq, Eq)]
 pub struct Table {
     pub payload_type: u8,
+    /// 0: of the first opening, which has the event's type alone.
+    pub both_types: u8,
+    pub redundant_type: u8,
     pub ssrc: u32,
     pub origin: u32,
     pub count: usize,
     pub segments: [Segment; 128],
 }
 
+/// What a refused opening leaves.
+const ZEROS: Table = Table {
+    payload_type: 0,
+    both_types: 0,
+    redundant_type: 0,
+    ssrc: 0,
+    origin: 0,
+    count: 0,
+    segments: [Segment { offset: 0, code: 0, duration: 0, volume: 0, ended: false, marked: false };
+        128],
+};
+
 /// The empty table; under a refusal, one of zeros.
 pub fn open(payload_type: u32, ssrc: u32, origin: u32) -> (Table, Result<(), u8>) {
-    let zeros = Table {
-        payload_type: 0,
-        ssrc: 0,
-        origin: 0,
-        count: 0,
-        segments: [Segment::default(); 128],
-    };
     if payload_type > 127 {
-        return (zeros, Err(12));
+        return (ZEROS, Err(12));
     }
     let payload_type = payload_type as u8;
-    (Table { payload_type, ssrc, origin, ..zeros }, Ok(()))
+    (Table { payload_type, ssrc, origin, ..ZEROS }, Ok(()))
 }
 
-/// Which of the seven tests a table fails, in 01's order. Of a table that says it has more than 128
-/// segments, all 128 places are looked at.
-pub fn failed(table: &Table) -> [bool; 7] {
+/// The second opening, which takes both types.
+pub fn open_redundant(
+    payload_type: u32,
+    redundant_type: u32,
+    ssrc: u32,
+    origin: u32,
+) -> (Table, Result<(), u8>) {
+    if payload_type > 127 || redundant_type > 127 || payload_type == redundant_type {
+        return (ZEROS, Err(12));
+    }
+    let (payload_type, redundant_type) = (payload_type as u8, redundant_type as u8);
+    (Table { payload_type, both_types: 1, redundant_type, ssrc, origin, ..ZEROS }, Ok(()))
+}
+
+/// Which of the nine tests a table fails: the seven of 01 in its order, and those of a table of the
+/// second opening. Of a table that says it has more than 128 segments, all 128 places are looked
+/// at.
+pub fn failed(table: &Table) -> [bool; 9] {
     let held = &table.segments[..table.count.min(128)];
     let pairs: Vec<_> = held.iter().map(|s| (s.offset, s.code)).collect();
     [
@@ -52,6 +75,8 @@ pub fn failed(table: &Table) -> [bool; 7] {
         held.iter().any(|s| s.duration == 0),
         held.iter().any(|s| s.volume > 63),
         table.payload_type > 127,
+        table.both_types != 0 && table.redundant_type > 127,
+        table.both_types != 0 && table.redundant_type == table.payload_type,
     ]
 }
 
@@ -59,8 +84,8 @@ pub fn is_valid(table: &Table) -> bool {
     !failed(table).contains(&true)
 }
 
-/// What a packet says to a table. Refusals 16, 1 to 10, and 17.
-fn said(table: &Table, packet: &[u8]) -> Result<Segment, u8> {
+/// What a packet says up to its payload, if it is for the table. Refusals 16, and 1 to 6.
+fn addressed<'a>(table: &Table, packet: &'a [u8]) -> Result<Header<'a>, u8> {
     if !is_valid(table) {
         return Err(16);
     }
@@ -71,7 +96,12 @@ fn said(table: &Table, packet: &[u8]) -> Result<Segment, u8> {
     if header.ssrc != table.ssrc {
         return Err(6);
     }
-    let report = report(&header)?;
+    Ok(header)
+}
+
+/// What the payload says to a table. Refusals 7 to 10, and 17.
+fn said(table: &Table, header: &Header) -> Result<Segment, u8> {
+    let report = report(header)?;
     let offset = (i64::from(report.timestamp) - i64::from(table.origin)).rem_euclid(1 << 32) as u64;
     if offset >= 1 << 31 {
         return Err(10);
@@ -99,10 +129,19 @@ fn probes(held: &[Segment], pair: (u64, u8)) -> usize {
     probes
 }
 
-/// Takes the packet into the table and says whether its segment is new. That, and a refusal, comes
-/// with the number of entries looked at.
-pub fn receive(table: &mut Table, packet: &[u8]) -> Result<(bool, usize), (u8, usize)> {
-    let heard = said(table, packet).map_err(|before_search| (before_search, 0))?;
+/// Whether the segment of what is taken is new, or the refusal; with the number of entries looked
+/// at.
+pub type Answer = Result<(bool, usize), (u8, usize)>;
+
+/// Takes the packet into the table.
+pub fn receive(table: &mut Table, packet: &[u8]) -> Answer {
+    let header = addressed(table, packet).map_err(|before_search| (before_search, 0))?;
+    take(table, &header)
+}
+
+/// Takes the report of a packet, or of a block, that is for the table.
+pub fn take(table: &mut Table, header: &Header) -> Answer {
+    let heard = said(table, header).map_err(|before_search| (before_search, 0))?;
     let pair = (heard.offset, heard.code);
     let held = &table.segments[..table.count];
     let probes = probes(held, pair);

@@ -17,8 +17,8 @@ payload-refusal-requires c κs = search hears
 returns : tie.Need-returns
 returns c = search hears
 
-offset-of-requires : tie.Need-offset-of-requires
-offset-of-requires c κs = search hears
+minus-requires : tie.Need-minus-requires
+minus-requires c κs = search hears
 
 returns-2 : tie.Need-returns-2
 returns-2 c = search hears
@@ -41,7 +41,7 @@ hear-spec =
     enum-told
     payload-refusal-requires
     returns
-    offset-of-requires
+    minus-requires
     returns-2
     key-of-requires
     heard-of-requires

@@ -1,0 +1,4 @@
+pub mod Scanning
+pub mod Steps
+pub mod Walking
+pub mod Lent

@@ -1,0 +1,75 @@
+-- Writing a redundant packet (02, request 2): "a writer takes a report and up to two older ones, which stand before it in the order
+-- given". The event's type is the report's payload type; all blocks are of it.
+use Prim.Native.Nat.{ℕ, _+_, _-_, _%_}
+use mathlib.Core.Bool.{Bool, true, false, not, cond, _&&_}
+use mathlib.Core.List.{List, [], _∷_, _++_, map}
+use lib.Dec.{ltb, leb, eqb}
+use lib.ListN.{length, take}
+use Rattle.model.specs.declared.Report.{Report}
+use Rattle.model.specs.declared.OlderReport.{OlderReport}
+use Rattle.model.specs.Limits.{isCode}
+use Rattle.model.specs.Refusals.{outOfRange, outputTooSmall, none, _if_else_, telling}
+use Rattle.model.specs.Packet.{headerBytes, payloadBytes, reportInRange, Writing}
+use Rattle.model.specs.Table.{typesDiffer, place}
+use Rattle.model.specs.Blocks.{Block, primaryBlock, laidOut}
+
+-- THE PACKET
+
+-- how much earlier an older report is, modulo 2^32
+abbrev pub offsetBefore : Report → OlderReport → ℕ
+offsetBefore r o = (r .timestamp + 0x1_0000_0000 - o .timestamp) % 0x1_0000_0000
+
+abbrev pub olderWritten : Report → OlderReport → Block
+olderWritten r o = record {
+  type = r .«payload_type»;
+  offset = offsetBefore r o;
+  primary = false;
+  bytes = payloadBytes (o .code) (o .ended) (o .volume) (o .duration);
+}
+
+abbrev pub primaryWritten : Report → Block
+primaryWritten r = primaryBlock (r .«payload_type») (payloadBytes (r .code) (r .ended) (r .volume) (r .duration))
+
+-- the blocks in their order
+abbrev pub blocksWritten : Report → List OlderReport → List Block
+blocksWritten r os = map (olderWritten r) os ++ (primaryWritten r ∷ [])
+
+unfoldable pub redundantPacketOf : Report → ℕ → List OlderReport → List ℕ
+redundantPacketOf r redundantType os = headerBytes r redundantType ++ laidOut (map (olderWritten r) os) (primaryWritten r)
+
+-- THE CALL
+
+-- a count of older reports, and room for two: those that it counts; the others are ignored
+abbrev pub olderGiven : ℕ → OlderReport → OlderReport → List OlderReport
+olderGiven count first second = take count (first ∷ second ∷ [])
+
+abbrev pub olderInRange : Report → OlderReport → Bool
+olderInRange r o =
+    isCode (o .code) && (leb (o .volume) 63 && ((leb 1 (o .duration) && leb (o .duration) 65535) && leb (offsetBefore r o) 16383))
+
+unfoldable pub allOlderInRange : Report → List OlderReport → Bool
+allOlderInRange r [] = true
+allOlderInRange r (o ∷ os) = olderInRange r o && allOlderInRange r os
+
+-- both types up to 127 and different, no third older report, and every number in its range
+abbrev pub redundantInRange : Report → ℕ → ℕ → OlderReport → OlderReport → Bool
+redundantInRange r redundantType count first second =
+    reportInRange r
+    && (typesDiffer (r .«payload_type») redundantType && (leb count 2 && allOlderInRange r (olderGiven count first second)))
+
+module _ (r : Report) (redundantType count : ℕ) (first second : OlderReport) (output : List ℕ) where
+  abbrev pub redundantBytes : List ℕ
+  redundantBytes = redundantPacketOf r redundantType (olderGiven count first second)
+
+  abbrev pub writeRedundantRefusal : ℕ
+  writeRedundantRefusal =
+      outOfRange if not (redundantInRange r redundantType count first second) else
+      outputTooSmall if ltb (length output) (length redundantBytes) else
+      none
+
+  -- the packet takes the first bytes of the output, and the bytes after it stay; under a refusal all stay
+  unfoldable pub writeRedundant : Writing
+  writeRedundant = record {
+    answer = telling writeRedundantRefusal tt tt;
+    output = cond (eqb writeRedundantRefusal none) (place redundantBytes output) output;
+  }

@@ -1,0 +1,5 @@
+pub mod Openings
+pub mod Takings
+pub mod Beginning
+pub mod Blockwise
+pub mod Ways
