@@ -26,7 +26,7 @@ static uint32_t below(uint32_t n)
 static twimbor_table empty(void)
 {
     twimbor_table t;
-    if (twimbor_open(&t, 101, 7, 1000) != 0) exit(1);
+    if (twimbor_open(&t, TWIMBOR_KEYS, 101, 7, 1000) != 0) exit(1);
     return t;
 }
 
@@ -41,7 +41,7 @@ static void put(int i, twimbor_report r)
     uint8_t *frame = frames + FRAME * i;
     frame[0] = 0;
     frame[1] = PACKET;
-    if (twimbor_write(r, frame + 2, PACKET) != 0) exit(1);
+    if (twimbor_write(TWIMBOR_KEYS, r, frame + 2, PACKET) != 0) exit(1);
 }
 
 typedef twimbor_captured call(twimbor_table *t, const uint8_t *frames, size_t bytes);
@@ -144,7 +144,7 @@ static void new_segments(void)
 static size_t any_packet(uint8_t *p)
 {
     twimbor_report r = {below(2), 101, 0, 1000 + below(200), 7, below(3), below(2), below(64), 1 + below(65535)};
-    if (twimbor_write(r, p, PACKET) != 0) exit(1);
+    if (twimbor_write(TWIMBOR_KEYS, r, p, PACKET) != 0) exit(1);
     for (int i = 0; i < 64; i++) p[PACKET + i] = (uint8_t)below(256);
     switch (below(8)) {
     case 0: return below(80);                                       /* a payload too long or packed, a header too short, nothing */
@@ -166,6 +166,7 @@ static void same_answers(void)
         if (below(20) == 0) *table = empty();
         if (below(10) == 0) table->head.count = below(200);
         if (below(20) == 0) table->heard[below(128)] ^= 1u << below(32);
+        if (below(20) == 0) table->head.codes.from_0 ^= (uint64_t)1 << below(64);
         size_t bytes = 0;
         for (uint32_t n = below(40); n > 0; n--) {
             size_t length = any_packet(frames + bytes + 2);

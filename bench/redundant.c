@@ -19,13 +19,14 @@ static twimbor_older_report older(twimbor_report r, uint32_t before)
 static twimbor_table filled(uint32_t held)
 {
     twimbor_table t;
-    if (twimbor_open_redundant(&t, 101, 102, 7, 1000) != 0) exit(1);
+    if (twimbor_open_redundant(&t, TWIMBOR_KEYS, 101, 102, 7, 1000) != 0) exit(1);
     for (uint32_t i = 0; i < held; i++) twimbor_set_segment(&t, i, (twimbor_segment){700 * i, 5, 1, 63, false, false});
     t.head.count = held;
     for (uint32_t i = 0; i < PACKETS; i++) {
         uint32_t at = i % held, back = at < 2 ? at : 2;
         twimbor_report r = {i % 7 == 0, 101, (uint16_t)i, 1000 + 700 * at, 7, 5, i % 3 == 0, i % 64, 1 + i};
-        if (twimbor_write_redundant(r, 102, 2, older(r, 700 * back), older(r, 700 * (back / 2)), packets[i], BYTES) != 0) exit(1);
+        twimbor_older_report first = older(r, 700 * back), second = older(r, 700 * (back / 2));
+        if (twimbor_write_redundant(TWIMBOR_KEYS, r, 102, 2, first, second, packets[i], BYTES) != 0) exit(1);
     }
     return t;
 }
@@ -54,7 +55,7 @@ static void receiving(uint32_t held)
 static size_t make_packet(uint8_t *packet, size_t n)
 {
     uint8_t report[16];
-    if (twimbor_write((twimbor_report){false, 101, 1, 100000, 7, 5, false, 10, 400}, report, 16) != 0) exit(1);
+    if (twimbor_write(TWIMBOR_KEYS, (twimbor_report){false, 101, 1, 100000, 7, 5, false, 10, 400}, report, 16) != 0) exit(1);
     memcpy(packet, report, 12);
     packet[1] = 102;
     for (size_t i = 0; i + 1 < n; i++) memcpy(packet + 12 + 4 * i, i % 2 ? "\x80\x00\x00\x00" : "\xe5\x00\x00\x00", 4);
@@ -75,7 +76,7 @@ static void many(size_t n)
     static uint32_t lent[16384];
     size_t bytes = make_packet(packet, n), turns = n < 1000 ? 20000 / n : 4;
     twimbor_table t;
-    if (twimbor_open_redundant(&t, 101, 102, 7, 1000) != 0) exit(1);
+    if (twimbor_open_redundant(&t, TWIMBOR_KEYS, 101, 102, 7, 1000) != 0) exit(1);
     double receive = 1e18, plain = 1e18, walk = 1e18, plain_steps = 1e18;
     for (int round = 0; round < ROUNDS / 4; round++) {
         size_t blocks = 0, found = 0;

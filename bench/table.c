@@ -27,11 +27,11 @@ static void same_answer(const twimbor_table *t, const uint8_t *packet, size_t by
 static void same_probes(void)
 {
     twimbor_table t;
-    if (twimbor_open(&t, 101, 7, 1000) != 0) exit(1);
+    if (twimbor_open(&t, TWIMBOR_KEYS, 101, 7, 1000) != 0) exit(1);
     for (uint32_t held = 0;; held++) {
         for (uint32_t offset = 0; offset <= 2 * held; offset++) {
             twimbor_report r = {false, 101, 0, 1000 + offset, 7, 5, false, 0, 1};
-            if (twimbor_write(r, packets, 16) != 0) exit(1);
+            if (twimbor_write(TWIMBOR_KEYS, r, packets, 16) != 0) exit(1);
             same_answer(&t, packets, 16);
             same_answer(&t, packets, 15);
         }
@@ -45,10 +45,10 @@ static void same_probes(void)
 static twimbor_table filled(int held)
 {
     twimbor_table t;
-    if (twimbor_open(&t, 101, 7, 1000) != 0) exit(1);
+    if (twimbor_open(&t, TWIMBOR_KEYS, 101, 7, 1000) != 0) exit(1);
     for (int i = 0; i < PACKETS; i++) {
         twimbor_report r = {i % 7 == 0, 101, (uint16_t)i, 1000u + 700u * (i % held), 7, 5, i % 3 == 0, i % 64, 1 + i};
-        if (twimbor_write(r, packets + 16 * i, 16) != 0 || twimbor_receive(&t, packets + 16 * i, 16).refusal != 0) exit(1);
+        if (twimbor_write(TWIMBOR_KEYS, r, packets + 16 * i, 16) != 0 || twimbor_receive(&t, packets + 16 * i, 16).refusal != 0) exit(1);
     }
     return t;
 }

@@ -19,11 +19,13 @@ enum { ROUNDS = 2000, TURNS = 20 };
     } \
     best; })
 
-/* n segments, 1000 units apart from offset 1000 on. */
+static const twimbor_codes ALL = {UINT64_MAX, UINT64_MAX, UINT64_MAX, UINT64_MAX};
+
+/* n segments, 1000 units apart from offset 1000 on, of so many codes in turn. */
 static twimbor_table holding(size_t n, bool marked, int codes)
 {
     twimbor_table t;
-    if (twimbor_open(&t, 101, 7, 0) != 0) exit(1);
+    if (twimbor_open(&t, ALL, 101, 7, 0) != 0) exit(1);
     for (size_t i = 0; i < n; i++) {
         t.head.count = i + 1;
         twimbor_set_segment(&t, i, (twimbor_segment){1000 * ((uint32_t)i + 1), (uint8_t)(i % codes), 400, 10, false, marked});
@@ -40,7 +42,7 @@ static void make_packet(uint32_t timestamp)
     const size_t extension = 12 + 15 * 4, words = (LONG - extension - 4 - 4 - 200) / 4, payload = extension + 4 + 4 * words;
     twimbor_report r = {true, 101, 1, timestamp, 7, 5, true, 10, 400};
     uint8_t plain[16];
-    if (twimbor_write(r, plain, 16) != 0) exit(1);
+    if (twimbor_write(TWIMBOR_KEYS, r, plain, 16) != 0) exit(1);
     memcpy(packet, plain, 12);
     memcpy(packet + payload, plain + 12, 4);
     packet[0] = 0x80 | 0x20 | 0x10 | 15;
@@ -72,7 +74,7 @@ static void bytes(int *read, int *received)
 {
     twimbor_table start = holding(100, true, 16), after = start;
     make_packet(50500);
-    twimbor_read_result was_read = twimbor_read(packet, LONG);
+    twimbor_read_result was_read = twimbor_read(TWIMBOR_KEYS, packet, LONG);
     twimbor_received was = twimbor_receive(&after, packet, LONG);
     if (was_read.refusal != 0 || was.refusal != 0) exit(1);
     *read = *received = 0;
@@ -81,7 +83,7 @@ static void bytes(int *read, int *received)
         uint8_t byte = packet[i];
         for (int other = 0; other < 256; other++) {
             packet[i] = (uint8_t)other;
-            reads |= !same_read(twimbor_read(packet, LONG), was_read);
+            reads |= !same_read(twimbor_read(TWIMBOR_KEYS, packet, LONG), was_read);
             receives |= !receives_alike(&start, was, &after);
         }
         packet[i] = byte;
@@ -131,19 +133,33 @@ int main(void)
     uint8_t output[16];
     twimbor_report report = {true, 101, 1, 2, 7, 5, true, 10, 400};
     twimbor_plan plan = {101, 7, 1, 2, 5, 10, 16 * 65535, 1, 65535};
-    uint32_t last = twimbor_report_count(plan).reports;
-    twimbor_table t, almost = holding(127, true, 1), full = holding(128, true, 1), apart = holding(128, false, 16);
+    uint32_t last = twimbor_report_count(TWIMBOR_KEYS, plan).reports;
+    twimbor_table t, apart = holding(128, false, 16), others = holding(128, false, 128);
     static twimbor_event list[128];
-    printf("read, %zu bytes: %.1f ns\n", LONG, TIME(sink += twimbor_read(packet, LONG).refusal));
-    printf("write: %.1f ns\n", TIME(sink += twimbor_write(report, output, 16)));
-    printf("report_count, %u reports: %.1f ns\n", last, TIME(sink += twimbor_report_count(plan).reports));
-    printf("write_report, the last: %.1f ns\n", TIME(sink += twimbor_write_report(plan, last, output, 16)));
-    printf("open: %.1f ns\n", TIME(sink += twimbor_open(&t, 101, 7, 0)));
-    printf("is_valid, 128 held: %.1f ns\n", TIME(sink += twimbor_is_valid(&full)));
-    double copy = TIME((t = almost, sink += t.head.count));
-    printf("receive, 127 held, a new one before all: %.1f ns\n", TIME((t = almost, sink += twimbor_receive(&t, packet, LONG).probes)) - copy);
-    printf("receive, 128 held, 11: %.1f ns\n", TIME(sink += twimbor_receive(&full, packet, LONG).probes));
+    twimbor_codes codes = {0xdb6db6db6db6db6d, 0x6db6db6db6db6db6, 0xb6db6db6db6db6db, 0xdb6db6db6db6db6d}; /* with the longest text */
+    char text[TWIMBOR_CODES_BYTES];
+    size_t written = twimbor_write_codes(codes, text, sizeof text).bytes;
+    printf("write_codes, %zu bytes: %.0f ns\n", written, TIME(sink += twimbor_write_codes(codes, text, sizeof text).bytes));
+    printf("read_codes, %zu bytes: %.0f ns\n", written, TIME(sink += twimbor_read_codes(text, written).codes.from_0));
+    printf("codes_contain: %.1f ns\n", TIME(sink += twimbor_codes_contain(codes, 255)));
+    printf("codes_count: %.1f ns\n", TIME(sink += twimbor_codes_count(codes)));
+    printf("codes_lowest: %.1f ns\n", TIME(sink += twimbor_codes_lowest((twimbor_codes){0, 0, 0, codes.from_192}).code));
+    printf("read, %zu bytes: %.1f ns\n", LONG, TIME(sink += twimbor_read(TWIMBOR_KEYS, packet, LONG).refusal));
+    printf("write: %.1f ns\n", TIME(sink += twimbor_write(TWIMBOR_KEYS, report, output, 16)));
+    printf("report_count, %u reports: %.1f ns\n", last, TIME(sink += twimbor_report_count(TWIMBOR_KEYS, plan).reports));
+    printf("write_report, the last: %.1f ns\n", TIME(sink += twimbor_write_report(TWIMBOR_KEYS, plan, last, output, 16)));
+    printf("open: %.1f ns\n", TIME(sink += twimbor_open(&t, TWIMBOR_KEYS, 101, 7, 0)));
+    for (int codes = 1; codes <= 128; codes += 127) {
+        twimbor_table almost = holding(127, true, codes), full = holding(128, true, codes);
+        printf("%s:\n", codes == 1 ? "keys alone held" : "codes above 15 held too");
+        printf("  is_valid, 128 held: %.1f ns\n", TIME(sink += twimbor_is_valid(&full)));
+        double copy = TIME((t = almost, sink += t.head.count));
+        printf("  receive, 127 held, a new one before all: %.1f ns\n", TIME((t = almost, sink += twimbor_receive(&t, packet, LONG).probes)) - copy);
+        printf("  receive, 128 held, 11: %.1f ns\n", TIME(sink += twimbor_receive(&full, packet, LONG).probes));
+    }
     printf("event_at, the last of 128, 16 keys in turn, none marked: %.0f ns\n", TIME(sink += twimbor_event_at(&apart, 128).refusal));
+    printf("event_at, the last of 128, each of another code, none marked: %.0f ns\n", TIME(sink += twimbor_event_at(&others, 128).refusal));
     printf("list, 128 events, 16 keys in turn, none marked: %.0f ns\n", TIME(sink += twimbor_list(&apart, list, 128).events));
+    printf("list, 128 events, each of another code, none marked: %.0f ns\n", TIME(sink += twimbor_list(&others, list, 128).events));
     return 0;
 }

@@ -24,7 +24,7 @@
 #include <stdint.h>
 
 #define TWIMBOR_VERSION_MAJOR 0
-#define TWIMBOR_VERSION_MINOR 9
+#define TWIMBOR_VERSION_MINOR 10
 #define TWIMBOR_VERSION_PATCH 0
 #define TWIMBOR_VERSION \
     TWIMBOR_DIGITS(TWIMBOR_VERSION_MAJOR) "." TWIMBOR_DIGITS(TWIMBOR_VERSION_MINOR) "." TWIMBOR_DIGITS(TWIMBOR_VERSION_PATCH)
@@ -36,6 +36,7 @@
 #define TWIMBOR_PACKET_BYTES 16         /* what is written of a report */
 #define TWIMBOR_OLDER_REPORTS 2         /* the older reports that a redundant packet is written with at most */
 #define TWIMBOR_REDUNDANT_BYTES 33      /* what is written of a report and two older ones; 8 less for each that is not there */
+#define TWIMBOR_CODES_BYTES 609         /* what is written of a set of codes at most */
 
 /* On every function whose answer says whether it was refused, or is a truth: gcc and clang warn if it is thrown away. */
 #ifdef __GNUC__
@@ -56,18 +57,19 @@ enum {
     TWIMBOR_OTHER_PAYLOAD_TYPE = 5, /* not the table's payload type, or neither of its two */
     TWIMBOR_OTHER_SSRC = 6,         /* not the table's SSRC */
     TWIMBOR_NOT_ONE_REPORT = 7,     /* payload not 4 bytes, and not packed */
-    TWIMBOR_CODE_TOO_HIGH = 8,      /* code above 15 */
+    TWIMBOR_CODE_NOT_IN_SET = 8,    /* code not in the set */
     TWIMBOR_NO_DURATION = 9,        /* duration 0 */
     TWIMBOR_OFFSET_TOO_LARGE = 10,  /* offset 2^31 or more */
     TWIMBOR_TABLE_FULL = 11,        /* 128 segments held, and this pair is none of them */
-    TWIMBOR_OUT_OF_RANGE = 12,      /* a number outside its range */
+    TWIMBOR_OUT_OF_RANGE = 12,      /* a number outside its range, a code outside the set, or an empty set */
     TWIMBOR_NO_SUCH_NUMBER = 13,    /* report or event number 0 or above the count */
-    TWIMBOR_OUTPUT_TOO_SMALL = 14,  /* output has fewer bytes than the packet */
+    TWIMBOR_OUTPUT_TOO_SMALL = 14,  /* output has fewer bytes than the packet, or the text */
     TWIMBOR_LIST_TOO_SMALL = 15,    /* lent list has fewer records than there are events, or entries than blocks of the event's type */
     TWIMBOR_INVALID_TABLE = 16,     /* table fails a test */
     TWIMBOR_PACKED = 17,            /* payload of 8, 12 or more bytes in whole fours: several reports */
     TWIMBOR_HEADERS_RUN_OUT = 18,   /* a redundant packet's block headers run past the payload's end */
-    TWIMBOR_BLOCKS_TOO_LONG = 19    /* its block lengths come to more than its data */
+    TWIMBOR_BLOCKS_TOO_LONG = 19,   /* its block lengths come to more than its data */
+    TWIMBOR_NO_CODES = 20           /* a text that is no list of codes; or an empty set that is written or asked its lowest code */
 };
 
 /* A refusal in words, for people to read. Every number has some, 0 and those of no refusal too. */
@@ -82,18 +84,19 @@ static inline const char *twimbor_refusal_text(uint64_t number)
     case TWIMBOR_OTHER_PAYLOAD_TYPE: return "the packet's payload type is not the table's";
     case TWIMBOR_OTHER_SSRC: return "the packet's SSRC is not the table's";
     case TWIMBOR_NOT_ONE_REPORT: return "the packet's payload is not 4 bytes, one report";
-    case TWIMBOR_CODE_TOO_HIGH: return "the report's event code is above 15";
+    case TWIMBOR_CODE_NOT_IN_SET: return "the report's event code is not in the set";
     case TWIMBOR_NO_DURATION: return "the report's duration is 0";
     case TWIMBOR_OFFSET_TOO_LARGE: return "the report's timestamp is 2^31 or more after the table's origin";
     case TWIMBOR_TABLE_FULL: return "the table holds 128 segments, and the report's is none of them";
-    case TWIMBOR_OUT_OF_RANGE: return "a number given is outside its range";
+    case TWIMBOR_OUT_OF_RANGE: return "a number given is outside its range, a code outside the set, or the set is empty";
     case TWIMBOR_NO_SUCH_NUMBER: return "the report or event number is 0 or above the count";
-    case TWIMBOR_OUTPUT_TOO_SMALL: return "the output has fewer bytes than the packet";
+    case TWIMBOR_OUTPUT_TOO_SMALL: return "the output has fewer bytes than the packet or the text";
     case TWIMBOR_LIST_TOO_SMALL: return "the lent list has fewer records than there are events, or entries than blocks";
-    case TWIMBOR_INVALID_TABLE: return "the table has more than 128 segments, segments out of order, or a number outside its range";
+    case TWIMBOR_INVALID_TABLE: return "the table has over 128 segments, segments out of order, or a number outside its range or the set";
     case TWIMBOR_PACKED: return "the packet's payload is several reports packed together";
     case TWIMBOR_HEADERS_RUN_OUT: return "the redundant packet's block headers run past its end";
     case TWIMBOR_BLOCKS_TOO_LONG: return "the redundant packet's block lengths come to more than its data";
+    case TWIMBOR_NO_CODES: return "the text is no list of event codes, or the set has none";
     default: return "a refusal that this version does not know";
     }
 }
@@ -104,6 +107,57 @@ static inline char twimbor_key_character(uint32_t code)
     return code < 16 ? "0123456789*#ABCD"[code] : '?';
 }
 
+/* A set of event codes, 0 to 255, as two ends of a call agree on it (RFC 4733, 2.4): a bit for each, from the lowest bit of `from_0`,
+ * which is code 0, to the highest of `from_192`, which is code 255. All calls that read, write, plan or open take one. */
+typedef struct {
+    uint64_t from_0;
+    uint64_t from_64;
+    uint64_t from_128;
+    uint64_t from_192;
+} twimbor_codes;
+
+/* The codes 0 to 15: digits 0 to 9, * and #, A to D. */
+static const twimbor_codes TWIMBOR_KEYS = {0xffff, 0, 0, 0};
+
+typedef struct {
+    twimbor_codes codes;
+    uint8_t refusal;
+} twimbor_codes_result;
+
+typedef struct {
+    size_t bytes;
+    uint8_t refusal;
+} twimbor_text_result;
+
+typedef struct {
+    uint32_t code;
+    uint8_t refusal;
+} twimbor_lowest_result;
+
+/* Reads the list of codes that stands in a session description after `a=fmtp:` and the payload type, such as 0-15,66,70. It is one or
+ * more items with commas between them: a number up to 255 without leading zeros, or two of them with a dash between, the first below
+ * the second. Items may repeat, overlap and come in any order; nothing else may stand in the text, no space and no newline.
+ *
+ * Refused: 20 for any other text. The set is then empty. */
+TWIMBOR_MUST_CHECK twimbor_codes_result twimbor_read_codes(const char *text, size_t bytes);
+
+/* Writes a set's list of codes at the start of the output, and answers how many bytes it has, at most TWIMBOR_CODES_BYTES; the bytes
+ * after them stay, and no 0 is put behind them. Each set has one text: rising, in the longest ranges. twimbor_read_codes gives the set
+ * back.
+ *
+ * Refused, in this order: 20 if the set is empty; 14 if the output has fewer bytes than the text. All of the output then stays, and 0
+ * bytes are answered. */
+TWIMBOR_MUST_CHECK twimbor_text_result twimbor_write_codes(twimbor_codes codes, char *output, size_t bytes);
+
+/* Whether a code is in the set; none above 255 is. */
+TWIMBOR_MUST_CHECK bool twimbor_codes_contain(twimbor_codes codes, uint32_t code);
+
+/* How many codes the set has. */
+TWIMBOR_MUST_CHECK uint32_t twimbor_codes_count(twimbor_codes codes);
+
+/* The lowest code of the set. Refused: 20 if it is empty, and the code is then 0. */
+TWIMBOR_MUST_CHECK twimbor_lowest_result twimbor_codes_lowest(twimbor_codes codes);
+
 /* One report on the wire. */
 typedef struct {
     bool marker;
@@ -111,7 +165,7 @@ typedef struct {
     uint16_t sequence;
     uint32_t timestamp;
     uint32_t ssrc;
-    uint32_t code;                  /* 0 to 15 */
+    uint32_t code;                  /* one of the set */
     bool ended;
     uint32_t volume;                /* 0 to 63; a larger number is less loud */
     uint32_t duration;              /* 1 to 65535 timestamp units */
@@ -120,7 +174,7 @@ typedef struct {
 /* An older report that a redundant packet repeats. A block has no marker, sequence number or SSRC of its own. */
 typedef struct {
     uint32_t timestamp;             /* at most 16383 before the report's, modulo 2^32 */
-    uint32_t code;                  /* 0 to 15 */
+    uint32_t code;                  /* one of the set */
     bool ended;
     uint32_t volume;                /* 0 to 63 */
     uint32_t duration;              /* 1 to 65535 timestamp units */
@@ -132,7 +186,7 @@ typedef struct {
     uint32_t ssrc;
     uint16_t sequence;              /* the first sequence number */
     uint32_t start;                 /* the first timestamp */
-    uint32_t code;                  /* 0 to 15 */
+    uint32_t code;                  /* one of the set */
     uint32_t volume;                /* 0 to 63 */
     uint32_t length;                /* 1 timestamp unit to 16 segment sizes */
     uint32_t period;                /* 1 to 65535 timestamp units between reports */
@@ -149,20 +203,20 @@ typedef struct {
     uint8_t refusal;
 } twimbor_count_result;
 
-/* Reads a packet: the one report that it carries. CSRC list, extension and padding are passed over.
+/* Reads a packet: the one report that it carries, of a code in the set. CSRC list, extension and padding are passed over.
  *
  * Refused, in this order: 1 with fewer than 12 bytes; 2 if the version is not 2; 3 if the CSRC list or the extension runs past
  * the end; 4 if P is set and the pad count is 0 or above the bytes after header, CSRC list and extension; 17 if the payload has
- * 8, 12 or more bytes in whole fours, which are several reports; 7 if it has any other length but 4; 8 if the code is above 15;
- * 9 if the duration is 0. The report is then all zeros. */
-TWIMBOR_MUST_CHECK twimbor_read_result twimbor_read(const uint8_t *packet, size_t bytes);
+ * 8, 12 or more bytes in whole fours, which are several reports; 7 if it has any other length but 4; 8 if the code is not in
+ * the set; 9 if the duration is 0. The report is then all zeros. */
+TWIMBOR_MUST_CHECK twimbor_read_result twimbor_read(twimbor_codes codes, const uint8_t *packet, size_t bytes);
 
 /* Writes the 16 bytes of a report's packet at the start of the output; the bytes after them stay. No CSRC list, extension or
- * padding is written. twimbor_read gives the report back.
+ * padding is written. With the same set twimbor_read gives the report back.
  *
- * Answers 0, or refuses, in this order: 12 if the payload type is above 127, the code above 15, the volume above 63, or the
- * duration 0 or above 65535; 14 if the output has fewer than 16 bytes. All of the output then stays. */
-TWIMBOR_MUST_CHECK uint8_t twimbor_write(twimbor_report report, uint8_t *output, size_t bytes);
+ * Answers 0, or refuses, in this order: 12 if the payload type is above 127, the code not in the set, which none is in an empty
+ * one, the volume above 63, or the duration 0 or above 65535; 14 if the output has fewer than 16 bytes. All of the output then stays. */
+TWIMBOR_MUST_CHECK uint8_t twimbor_write(twimbor_codes codes, twimbor_report report, uint8_t *output, size_t bytes);
 
 /* Writes a redundant packet (RFC 2198) at the start of the output: `count` older reports, 0, 1 or 2 of them, stand before the report in
  * the order given, which is `first`, then `second`; what the count does not count is ignored. Its payload type is `redundant_type`, all
@@ -172,7 +226,8 @@ TWIMBOR_MUST_CHECK uint8_t twimbor_write(twimbor_report report, uint8_t *output,
  * report that counts; if the redundant type is above 127 or equal to the report's; if the count is above 2; or if an older report's
  * timestamp is more than 16383 before the report's, modulo 2^32; 14 if the output has fewer bytes than the packet. All of the output
  * then stays. */
-TWIMBOR_MUST_CHECK uint8_t twimbor_write_redundant(twimbor_report report, uint32_t redundant_type, uint32_t count,
+TWIMBOR_MUST_CHECK uint8_t twimbor_write_redundant(twimbor_codes codes, twimbor_report report, uint32_t redundant_type,
+                                                   uint32_t count,
                                                    twimbor_older_report first, twimbor_older_report second,
                                                    uint8_t *output, size_t bytes);
 
@@ -251,16 +306,16 @@ TWIMBOR_MUST_CHECK static inline bool twimbor_next_block(twimbor_walker *walker,
 /* How many reports a plan has. An event is cut into segments of the segment size, the last holding the rest; a segment of L units
  * is reported at each multiple of the period below L, and at L three times.
  *
- * Refused: 12 if the payload type is above 127, the code above 15, the volume above 63, the segment size 0 or above 65535, the
+ * Refused: 12 if the payload type is above 127, the code not in the set, the volume above 63, the segment size 0 or above 65535, the
  * length 0 or above 16 segment sizes, or the period 0 or above 65535. The number of reports is then 0. */
-TWIMBOR_MUST_CHECK twimbor_count_result twimbor_report_count(twimbor_plan plan);
+TWIMBOR_MUST_CHECK twimbor_count_result twimbor_report_count(twimbor_codes codes, twimbor_plan plan);
 
 /* Writes the 16 bytes of report k of a plan, counted from 1, at the start of the output; the bytes after them stay. The first
  * report carries the marker, and on the last segment the second and third report of its full length carry E.
  *
  * Answers 0, or refuses, in this order: 12 if a number of the plan is out of its range, as for twimbor_report_count; 13 if k is
  * 0 or above the number of reports; 14 if the output has fewer than 16 bytes. All of the output then stays. */
-TWIMBOR_MUST_CHECK uint8_t twimbor_write_report(twimbor_plan plan, uint32_t k, uint8_t *output, size_t bytes);
+TWIMBOR_MUST_CHECK uint8_t twimbor_write_report(twimbor_codes codes, twimbor_plan plan, uint32_t k, uint8_t *output, size_t bytes);
 
 /* What a table was opened with, and how many segments it holds. */
 typedef struct {
@@ -269,6 +324,7 @@ typedef struct {
     uint8_t redundant_type;         /* then their payload type, 0 to 127 and another than the event's; else nothing looks at it */
     uint32_t ssrc;
     uint32_t origin;                /* the timestamp that offsets are counted from */
+    twimbor_codes codes;            /* the codes that are taken */
     size_t count;                   /* at most TWIMBOR_PLACES */
 } twimbor_head;
 
@@ -291,7 +347,7 @@ typedef struct {
 /* A segment: what was heard of one offset and code. */
 typedef struct {
     uint32_t offset;                /* (timestamp - origin) modulo 2^32; below 2^31 */
-    uint8_t code;                   /* 0 to 15 */
+    uint8_t code;                   /* one of the table's set */
     uint16_t duration;              /* the largest heard; 1 to 65535 timestamp units */
     uint8_t volume;                 /* the smallest number heard, the loudest; 0 to 63 */
     bool ended;                     /* E was heard */
@@ -347,9 +403,9 @@ typedef struct {
 
 /* The archive's calls take the head by value and the columns as pointers to TWIMBOR_PLACES numbers each, wherever these are
  * kept. The functions after them do the same with a twimbor_table, and say what each call does. */
-TWIMBOR_MUST_CHECK twimbor_opened twimbor_open_table(uint32_t payload_type, uint32_t ssrc, uint32_t origin);
-TWIMBOR_MUST_CHECK twimbor_opened twimbor_open_redundant_table(uint32_t payload_type, uint32_t redundant_type, uint32_t ssrc,
-                                                               uint32_t origin);
+TWIMBOR_MUST_CHECK twimbor_opened twimbor_open_table(twimbor_codes codes, uint32_t payload_type, uint32_t ssrc, uint32_t origin);
+TWIMBOR_MUST_CHECK twimbor_opened twimbor_open_redundant_table(twimbor_codes codes, uint32_t payload_type, uint32_t redundant_type,
+                                                               uint32_t ssrc, uint32_t origin);
 TWIMBOR_MUST_CHECK bool twimbor_is_valid_columns(twimbor_head head, const uint64_t *keys, const uint32_t *heard);
 TWIMBOR_MUST_CHECK twimbor_received twimbor_receive_columns(twimbor_head head, uint64_t *keys, uint32_t *heard,
                                                             const uint8_t *packet, size_t bytes);
@@ -363,32 +419,34 @@ TWIMBOR_MUST_CHECK twimbor_event_result twimbor_event_at_columns(twimbor_head he
 TWIMBOR_MUST_CHECK twimbor_listed twimbor_list_columns(twimbor_head head, const uint64_t *keys, const uint32_t *heard,
                                                        twimbor_event *list, size_t records);
 
-/* Opens an empty table for the packets of one payload type and SSRC, with zeros in all places. Offsets are counted from the
- * timestamp `origin`.
+/* Opens an empty table for the packets of one payload type and SSRC and for the codes of a set, with zeros in all places. Offsets are
+ * counted from the timestamp `origin`.
  *
- * Answers 0, or refuses: 12 if the payload type is above 127, and the table is then all zeros. */
-TWIMBOR_MUST_CHECK static inline uint8_t twimbor_open(twimbor_table *table, uint32_t payload_type, uint32_t ssrc, uint32_t origin)
+ * Answers 0, or refuses: 12 if the set is empty or the payload type above 127, and the table is then all zeros. */
+TWIMBOR_MUST_CHECK static inline uint8_t twimbor_open(twimbor_table *table, twimbor_codes codes, uint32_t payload_type, uint32_t ssrc,
+                                                      uint32_t origin)
 {
-    twimbor_opened opened = twimbor_open_table(payload_type, ssrc, origin);
+    twimbor_opened opened = twimbor_open_table(codes, payload_type, ssrc, origin);
     *table = opened.table;
     return opened.refusal;
 }
 
 /* Opens an empty table for the packets of one SSRC that are of the event's payload type or redundant, with zeros in all places.
  *
- * Answers 0, or refuses: 12 if one of the payload types is above 127 or they are equal, and the table is then all zeros, as one that was
- * opened for one payload type. */
-TWIMBOR_MUST_CHECK static inline uint8_t twimbor_open_redundant(twimbor_table *table, uint32_t payload_type, uint32_t redundant_type,
-                                                                uint32_t ssrc, uint32_t origin)
+ * Answers 0, or refuses: 12 if the set is empty, one of the payload types above 127, or they are equal, and the table is then all zeros,
+ * as one that was opened for one payload type. */
+TWIMBOR_MUST_CHECK static inline uint8_t twimbor_open_redundant(twimbor_table *table, twimbor_codes codes, uint32_t payload_type,
+                                                                uint32_t redundant_type, uint32_t ssrc, uint32_t origin)
 {
-    twimbor_opened opened = twimbor_open_redundant_table(payload_type, redundant_type, ssrc, origin);
+    twimbor_opened opened = twimbor_open_redundant_table(codes, payload_type, redundant_type, ssrc, origin);
     *table = opened.table;
     return opened.refusal;
 }
 
 /* Whether a table passes the tests of refusal 16: at most 128 segments held; these strictly rising by offset, then code; offsets
- * below 2^31; codes 0 to 15; durations 1 to 65535; volumes 0 to 63; a payload type up to 127; and in a table opened for both types
- * the other one up to 127 too, and another. A table that was opened always does, whatever it received. */
+ * below 2^31; codes of the table's set, which may be empty if nothing is held; durations 1 to 65535; volumes 0 to 63; a payload type up
+ * to 127; and in a table opened for both types the other one up to 127 too, and another. A table that was opened always does, whatever
+ * it received. */
 TWIMBOR_MUST_CHECK static inline bool twimbor_is_valid(const twimbor_table *table)
 {
     return twimbor_is_valid_columns(table->head, table->keys, table->heard);
@@ -404,8 +462,8 @@ TWIMBOR_MUST_CHECK static inline bool twimbor_is_valid(const twimbor_table *tabl
  * search; under every other refusal nothing was looked up, and it is 0.
  *
  * Refused, in this order: 16 if the table fails its tests; 1 to 4 as by twimbor_read; 5 if it is another payload type than the
- * table's; 6 if it is another SSRC; 17, 7, 8 and 9 as by twimbor_read; 10 if the offset is 2^31 or more; 11 if 128 segments
- * are held and this pair is none of them. The table then is as it was, in every place. */
+ * table's; 6 if it is another SSRC; 17, 7, 8 and 9 as by twimbor_read with the table's set; 10 if the offset is 2^31 or more; 11 if
+ * 128 segments are held and this pair is none of them. The table then is as it was, in every place. */
 TWIMBOR_MUST_CHECK static inline twimbor_received twimbor_receive(twimbor_table *table, const uint8_t *packet, size_t bytes)
 {
     twimbor_received received = twimbor_receive_columns(table->head, table->keys, table->heard, packet, bytes);

@@ -34,11 +34,16 @@ static bool same_event(twimbor_event a, twimbor_event b)
         && a.ended == b.ended;
 }
 
+static bool same_codes(twimbor_codes a, twimbor_codes b)
+{
+    return a.from_0 == b.from_0 && a.from_64 == b.from_64 && a.from_128 == b.from_128 && a.from_192 == b.from_192;
+}
+
 static bool same_table(const twimbor_table *a, const twimbor_table *b)
 {
     return a->head.payload_type == b->head.payload_type && a->head.both_types == b->head.both_types
         && a->head.redundant_type == b->head.redundant_type && a->head.ssrc == b->head.ssrc && a->head.origin == b->head.origin
-        && a->head.count == b->head.count && memcmp(a->keys, b->keys, sizeof a->keys) == 0
+        && same_codes(a->head.codes, b->head.codes) && a->head.count == b->head.count && memcmp(a->keys, b->keys, sizeof a->keys) == 0
         && memcmp(a->heard, b->heard, sizeof a->heard) == 0;
 }
 
@@ -56,7 +61,7 @@ static const uint8_t REPORTS[3][16] = {
     {0x80, 0x65, 0x00, 0x00, 0xFF, 0xFF, 0xFF, 0xF0, 0x11, 0x22, 0x33, 0x44, 0x05, 0x8A, 0x01, 0x90},
     {0x80, 0x65, 0x00, 0x01, 0xFF, 0xFF, 0xFF, 0xF0, 0x11, 0x22, 0x33, 0x44, 0x05, 0x8A, 0x01, 0x90},
 };
-static const twimbor_head HEAD = {.payload_type = 101, .ssrc = 0x11223344, .origin = 0xFFFFFFF0, .count = 0};
+static const twimbor_head HEAD = {.payload_type = 101, .ssrc = 0x11223344, .origin = 0xFFFFFFF0, .codes = {.from_0 = 0xFFFF}, .count = 0};
 static const twimbor_segment HEARD = {.offset = 0, .code = 5, .duration = 400, .volume = 10, .ended = true, .marked = true};
 
 static uint8_t output[40];
@@ -99,30 +104,151 @@ static const uint8_t *long_packet(void)
     return packet;
 }
 
+/* Lists of codes, what each says, and its set's own text. */
+static const struct {
+    const char *text;
+    twimbor_codes codes;
+    const char *written;
+} lists[] = {
+    {"0-15", {0xFFFF, 0, 0, 0}, "0-15"},
+    {"0-15,66,70", {0xFFFF, 0x44, 0, 0}, "0-15,66,70"},
+    {"70,5-15,66,0-9,70", {0xFFFF, 0x44, 0, 0}, "0-15,66,70"},
+    {"0", {1, 0, 0, 0}, "0"},
+    {"255", {0, 0, 0, 0x8000000000000000}, "255"},
+    {"3,4", {0x18, 0, 0, 0}, "3-4"},
+    {"3,5", {0x28, 0, 0, 0}, "3,5"},
+    {"63,64", {0x8000000000000000, 1, 0, 0}, "63-64"},
+    {"63,65", {0x8000000000000000, 2, 0, 0}, "63,65"},
+    {"127-128,192,191", {0, 0x8000000000000000, 0x8000000000000001, 1}, "127-128,191-192"},
+    {"0-63,64-70", {UINT64_MAX, 0x7F, 0, 0}, "0-70"},
+    {"64-191", {0, UINT64_MAX, UINT64_MAX, 0}, "64-191"},
+    {"1-254", {UINT64_MAX - 1, UINT64_MAX, UINT64_MAX, UINT64_MAX >> 1}, "1-254"},
+    {"0-255", {UINT64_MAX, UINT64_MAX, UINT64_MAX, UINT64_MAX}, "0-255"},
+    {"0,255", {1, 0, 0, 0x8000000000000000}, "0,255"},
+};
+enum { LISTS = sizeof lists / sizeof *lists };
+
+/* In fewer bits the long numbers look like 0 or 5. */
+static const char *const no_lists[] = {
+    ",", "-", "256", "260", "300", "999", "1000", "00", "01", "0-015", "5-5", "9-3", "1,", ",1", "1,,2", "1-2-3", "1-", "-1", "1--2",
+    "1-256", "+1", " 1", "1 ", "1, 2", "1\n", "\n", "0x5", "1;2", "A", "\x80", "65541", "4294967301", "18446744073709551616",
+    "99999999999999999999", "0-18446744073709551621",
+};
+
+static const twimbor_codes NO_CODES;
+
+static bool is_no_list(const char *text, size_t bytes)
+{
+    twimbor_codes_result r = twimbor_read_codes(text, bytes);
+    return r.refusal == TWIMBOR_NO_CODES && same_codes(r.codes, NO_CODES);
+}
+
+static bool is_list(const char *text, size_t bytes, twimbor_codes codes)
+{
+    twimbor_codes_result r = twimbor_read_codes(text, bytes);
+    return r.refusal == 0 && same_codes(r.codes, codes);
+}
+
+static void reading_codes(void)
+{
+    for (size_t i = 0; i < LISTS; i++) {
+        EXPECT(is_list(lists[i].text, strlen(lists[i].text), lists[i].codes));
+        EXPECT(is_list(lists[i].written, strlen(lists[i].written), lists[i].codes));
+        EXPECT(is_no_list(lists[i].text, strlen(lists[i].text) + 1)); /* with the 0 behind it */
+    }
+    for (size_t i = 0; i < sizeof no_lists / sizeof *no_lists; i++) EXPECT(is_no_list(no_lists[i], strlen(no_lists[i])));
+
+    /* Cut at each place; what comes after it is not looked at. */
+    static const char text[] = "9-12,7";
+    EXPECT(is_no_list(text, 0) && is_list(text, 1, (twimbor_codes){0x200, 0, 0, 0}) && is_no_list(text, 2) && is_no_list(text, 3));
+    EXPECT(is_list(text, 4, (twimbor_codes){0x1E00, 0, 0, 0}) && is_no_list(text, 5) && is_list(text, 6, (twimbor_codes){0x1E80, 0, 0, 0}));
+}
+
+/* Writes a set's text, `bytes` long, with so much room in a larger output: there it stands, or the refusal is given; the rest stays. */
+static bool is_written(twimbor_codes codes, const char *text, size_t bytes, size_t room, uint8_t refusal)
+{
+    static char out[700], want[700];
+    memset(out, 0xAB, sizeof out);
+    memset(want, 0xAB, sizeof want);
+    if (refusal == 0) memcpy(want, text, bytes);
+    twimbor_text_result r = twimbor_write_codes(codes, out, room);
+    return r.refusal == refusal && r.bytes == (refusal == 0 ? bytes : 0) && memcmp(out, want, sizeof out) == 0;
+}
+
+/* Room on both sides of the text's length. */
+static bool is_written_in_its_bytes(twimbor_codes codes, const char *text, size_t bytes)
+{
+    return is_written(codes, text, bytes, bytes, 0) && is_written(codes, text, bytes, bytes + 1, 0)
+        && is_written(codes, text, bytes, bytes - 1, TWIMBOR_OUTPUT_TOO_SMALL)
+        && is_written(codes, text, bytes, 0, TWIMBOR_OUTPUT_TOO_SMALL);
+}
+
+static void writing_codes(void)
+{
+    for (size_t i = 0; i < LISTS; i++) EXPECT(is_written_in_its_bytes(lists[i].codes, lists[i].written, strlen(lists[i].written)));
+    EXPECT(is_written(NO_CODES, "", 0, 700, TWIMBOR_NO_CODES) && is_written(NO_CODES, "", 0, 0, TWIMBOR_NO_CODES));
+
+    /* The longest text: all but each third code. */
+    char text[700] = "0";
+    uint64_t words[4] = {1, 0, 0, 0};
+    size_t bytes = 1;
+    for (int code = 2; code <= 254; code += 3) {
+        bytes += (size_t)sprintf(text + bytes, ",%d-%d", code, code + 1);
+        words[code / 64] |= (uint64_t)1 << code % 64;
+        words[(code + 1) / 64] |= (uint64_t)1 << (code + 1) % 64;
+    }
+    EXPECT(bytes == TWIMBOR_CODES_BYTES && is_written_in_its_bytes((twimbor_codes){words[0], words[1], words[2], words[3]}, text, bytes));
+}
+
+/* A code's number on both sides of each edge. In 8 bits the last ones look like 66. */
+static void telling_codes(void)
+{
+    static const uint32_t outside[] = {16, 65, 67, 69, 71, 128, 255, 256, 256 + 66, 0x10042, UINT32_MAX};
+    twimbor_codes codes = lists[1].codes, all = {UINT64_MAX, UINT64_MAX, UINT64_MAX, UINT64_MAX};
+    EXPECT(twimbor_codes_contain(codes, 0) && twimbor_codes_contain(codes, 15) && twimbor_codes_contain(codes, 66));
+    for (size_t i = 0; i < sizeof outside / sizeof *outside; i++) {
+        EXPECT(!twimbor_codes_contain(codes, outside[i]) && twimbor_codes_contain(all, outside[i]) == (outside[i] <= 255));
+        EXPECT(!twimbor_codes_contain(NO_CODES, outside[i]));
+    }
+    EXPECT(same_codes(TWIMBOR_KEYS, lists[0].codes));
+    EXPECT(twimbor_codes_count(NO_CODES) == 0 && twimbor_codes_count(TWIMBOR_KEYS) == 16 && twimbor_codes_count(codes) == 18);
+    EXPECT(twimbor_codes_count(all) == 256);
+    twimbor_lowest_result r = twimbor_codes_lowest(NO_CODES);
+    EXPECT(r.refusal == TWIMBOR_NO_CODES && r.code == 0);
+    for (uint32_t code = 0; code < 256; code++) {
+        uint64_t words[4] = {0, 0, 0, 0x8000000000000000};
+        words[code / 64] |= (uint64_t)1 << code % 64;
+        codes = (twimbor_codes){words[0], words[1], words[2], words[3]};
+        r = twimbor_codes_lowest(codes);
+        EXPECT(r.refusal == 0 && r.code == code && twimbor_codes_count(codes) == (code == 255 ? 1 : 2));
+        EXPECT(twimbor_codes_contain(codes, code) && !twimbor_codes_contain(codes, code ^ 1) == (code != 254));
+    }
+}
+
 static void packets(void)
 {
     fresh();
-    EXPECT(twimbor_write(FIRST, output, 16) == 0 && has(REPORTS[0]));
-    twimbor_read_result r = twimbor_read(output, 16);
+    EXPECT(twimbor_write(TWIMBOR_KEYS, FIRST, output, 16) == 0 && has(REPORTS[0]));
+    twimbor_read_result r = twimbor_read(TWIMBOR_KEYS, output, 16);
     EXPECT(r.refusal == 0 && same_report(r.report, FIRST));
-    r = twimbor_read(REPORTS[1], 16);
+    r = twimbor_read(TWIMBOR_KEYS, REPORTS[1], 16);
     EXPECT(r.refusal == 0 && !r.report.marker && r.report.sequence == 0 && r.report.ended);
 
     static const twimbor_report zeros;
-    r = twimbor_read(output, 0);
+    r = twimbor_read(TWIMBOR_KEYS, output, 0);
     EXPECT(r.refusal == TWIMBOR_TOO_SHORT && same_report(r.report, zeros));
 
     for (size_t i = 0; i < LENGTHS; i++) {
-        r = twimbor_read(long_packet(), lengths[i].bytes);
+        r = twimbor_read(TWIMBOR_KEYS, long_packet(), lengths[i].bytes);
         EXPECT(r.refusal == lengths[i].refusal && same_report(r.report, zeros));
     }
 
     fresh();
-    EXPECT(twimbor_write(FIRST, output, 15) == TWIMBOR_OUTPUT_TOO_SMALL && has(NULL));
-    EXPECT(twimbor_write(FIRST, output, 0) == TWIMBOR_OUTPUT_TOO_SMALL && has(NULL));
+    EXPECT(twimbor_write(TWIMBOR_KEYS, FIRST, output, 15) == TWIMBOR_OUTPUT_TOO_SMALL && has(NULL));
+    EXPECT(twimbor_write(TWIMBOR_KEYS, FIRST, output, 0) == TWIMBOR_OUTPUT_TOO_SMALL && has(NULL));
     twimbor_report wide = FIRST;
     wide.payload_type = 256 + 101;
-    EXPECT(twimbor_write(wide, output, sizeof output) == TWIMBOR_OUT_OF_RANGE && has(NULL));
+    EXPECT(twimbor_write(TWIMBOR_KEYS, wide, output, sizeof output) == TWIMBOR_OUT_OF_RANGE && has(NULL));
 }
 
 /* Segment sizes and lengths on both sides of each edge. In 16 bits the last two sizes look like 1, and in 32 bits 16 times the last
@@ -137,32 +263,32 @@ static const struct {
 
 static void plans(void)
 {
-    twimbor_count_result count = twimbor_report_count(P7);
+    twimbor_count_result count = twimbor_report_count(TWIMBOR_KEYS, P7);
     EXPECT(count.refusal == 0 && count.reports == 3);
     for (uint32_t k = 1; k <= 3; k++) {
         fresh();
-        EXPECT(twimbor_write_report(P7, k, output, 16) == 0 && has(REPORTS[k - 1]));
+        EXPECT(twimbor_write_report(TWIMBOR_KEYS, P7, k, output, 16) == 0 && has(REPORTS[k - 1]));
     }
     fresh();
-    EXPECT(twimbor_write_report(P7, 0, output, 16) == TWIMBOR_NO_SUCH_NUMBER && has(NULL));
-    EXPECT(twimbor_write_report(P7, 4, output, 16) == TWIMBOR_NO_SUCH_NUMBER && has(NULL));
-    EXPECT(twimbor_write_report(P7, 1, output, 15) == TWIMBOR_OUTPUT_TOO_SMALL && has(NULL));
-    EXPECT(twimbor_write_report(P7, 1, output, 0) == TWIMBOR_OUTPUT_TOO_SMALL && has(NULL));
+    EXPECT(twimbor_write_report(TWIMBOR_KEYS, P7, 0, output, 16) == TWIMBOR_NO_SUCH_NUMBER && has(NULL));
+    EXPECT(twimbor_write_report(TWIMBOR_KEYS, P7, 4, output, 16) == TWIMBOR_NO_SUCH_NUMBER && has(NULL));
+    EXPECT(twimbor_write_report(TWIMBOR_KEYS, P7, 1, output, 15) == TWIMBOR_OUTPUT_TOO_SMALL && has(NULL));
+    EXPECT(twimbor_write_report(TWIMBOR_KEYS, P7, 1, output, 0) == TWIMBOR_OUTPUT_TOO_SMALL && has(NULL));
     twimbor_plan wide = P7;
     wide.period = 65536 + 400;
-    count = twimbor_report_count(wide);
+    count = twimbor_report_count(TWIMBOR_KEYS, wide);
     EXPECT(count.refusal == TWIMBOR_OUT_OF_RANGE && count.reports == 0);
-    EXPECT(twimbor_write_report(wide, 1, output, 16) == TWIMBOR_OUT_OF_RANGE && has(NULL));
+    EXPECT(twimbor_write_report(TWIMBOR_KEYS, wide, 1, output, 16) == TWIMBOR_OUT_OF_RANGE && has(NULL));
 
     for (size_t i = 0; i < sizeof sizes / sizeof *sizes; i++) {
         twimbor_plan plan = P7;
         plan.segment_size = sizes[i].segment_size;
         plan.length = sizes[i].length;
         uint8_t refusal = sizes[i].reports == 0 ? TWIMBOR_OUT_OF_RANGE : 0;
-        count = twimbor_report_count(plan);
+        count = twimbor_report_count(TWIMBOR_KEYS, plan);
         EXPECT(count.refusal == refusal && count.reports == sizes[i].reports);
         fresh();
-        EXPECT(twimbor_write_report(plan, 1, output, 16) == refusal && (refusal == 0 || has(NULL)));
+        EXPECT(twimbor_write_report(TWIMBOR_KEYS, plan, 1, output, 16) == refusal && (refusal == 0 || has(NULL)));
     }
 }
 
@@ -172,9 +298,9 @@ static void opening(void)
     twimbor_table table, empty = zeros;
     empty.head = HEAD;
     memset(&table, 0xAB, sizeof table);
-    EXPECT(twimbor_open(&table, 101, HEAD.ssrc, HEAD.origin) == 0 && same_table(&table, &empty) && twimbor_is_valid(&table));
+    EXPECT(twimbor_open(&table, TWIMBOR_KEYS, 101, HEAD.ssrc, HEAD.origin) == 0 && same_table(&table, &empty) && twimbor_is_valid(&table));
     memset(&table, 0xAB, sizeof table);
-    EXPECT(twimbor_open(&table, 256 + 101, HEAD.ssrc, HEAD.origin) == TWIMBOR_OUT_OF_RANGE && same_table(&table, &zeros));
+    EXPECT(twimbor_open(&table, TWIMBOR_KEYS, 256 + 101, HEAD.ssrc, HEAD.origin) == TWIMBOR_OUT_OF_RANGE && same_table(&table, &zeros));
 }
 
 /* The second opening: the types on both sides of each edge, and equal. In 8 bits the last ones look like 101 and 100. */
@@ -198,7 +324,8 @@ static void opening_for_both(void)
             want.head.redundant_type = (uint8_t)types[i].redundant_type;
         }
         memset(&table, 0xAB, sizeof table);
-        uint8_t refusal = twimbor_open_redundant(&table, types[i].payload_type, types[i].redundant_type, HEAD.ssrc, HEAD.origin);
+        uint32_t type = types[i].payload_type, other = types[i].redundant_type;
+        uint8_t refusal = twimbor_open_redundant(&table, TWIMBOR_KEYS, type, other, HEAD.ssrc, HEAD.origin);
         EXPECT(refusal == (types[i].refused ? TWIMBOR_OUT_OF_RANGE : 0) && same_table(&table, &want) && twimbor_is_valid(&table));
     }
 }
@@ -255,7 +382,7 @@ static void receiving(void)
     twimbor_report report = FIRST;
     for (uint32_t n = 1; n <= 128; n++) {
         report.timestamp = FIRST.timestamp + 1000 - n;
-        EXPECT(twimbor_write(report, output, 16) == 0);
+        EXPECT(twimbor_write(TWIMBOR_KEYS, report, output, 16) == 0);
         want = *table;
         r = twimbor_receive(table, output, 16);
         EXPECT(r.probes == probes_at_start(n));
@@ -268,7 +395,7 @@ static void receiving(void)
     /* Each segment of the full table once more: only the first two take an eighth look. */
     for (size_t i = 0; i < 128; i++) {
         report.timestamp = FIRST.timestamp + twimbor_segment_at(table, i).offset;
-        EXPECT(twimbor_write(report, output, 16) == 0);
+        EXPECT(twimbor_write(TWIMBOR_KEYS, report, output, 16) == 0);
         r = twimbor_receive(table, output, 16);
         EXPECT(r.refusal == 0 && !r.is_new && r.count == 128 && r.probes == (i < 2 ? 8 : 7));
     }
@@ -325,7 +452,7 @@ static void capturing(void)
     at = 0;
     for (uint32_t n = 0; n <= 130; n++) {
         report.timestamp = FIRST.timestamp + (n < 130 ? n : 77);
-        EXPECT(twimbor_write(report, output, 16) == 0);
+        EXPECT(twimbor_write(TWIMBOR_KEYS, report, output, 16) == 0);
         at = put_frame(at, output, 16);
     }
     EXPECT(captured(twimbor_receive_capture(table, frames, at), 128, at, 129, 2, 0));
@@ -375,11 +502,11 @@ static void short_segments(void)
     plan.period = 4;
     plan.segment_size = 15;
     twimbor_table *table = opened();
-    uint32_t reports = twimbor_report_count(plan).reports;
+    uint32_t reports = twimbor_report_count(TWIMBOR_KEYS, plan).reports;
     EXPECT(reports == 4 * 6 + 5);
     for (uint32_t k = 1; k <= reports; k++) {
-        EXPECT(twimbor_write_report(plan, k, output, 16) == 0);
-        twimbor_read_result r = twimbor_read(output, 16);
+        EXPECT(twimbor_write_report(TWIMBOR_KEYS, plan, k, output, 16) == 0);
+        twimbor_read_result r = twimbor_read(TWIMBOR_KEYS, output, 16);
         uint32_t segment = (k - 1) / 6;
         EXPECT(r.refusal == 0 && r.report.timestamp == plan.start + 15 * segment && r.report.ended == (k > reports - 2));
         EXPECT(twimbor_receive(table, output, 16).refusal == 0 && table->head.count == segment + 1);
@@ -444,7 +571,7 @@ static const twimbor_segment BLOCKS[3] = {
 static uint8_t write_redundant(uint32_t count, size_t room)
 {
     fresh();
-    return twimbor_write_redundant(REPORT, 100, count, OLDEST, OLDER, output, room);
+    return twimbor_write_redundant(TWIMBOR_KEYS, REPORT, 100, count, OLDEST, OLDER, output, room);
 }
 
 /* Room on both sides of each edge, and older reports that do not count but are out of range. */
@@ -464,8 +591,8 @@ static void writing_redundant(void)
 
         static const twimbor_older_report out = {.timestamp = 0x3D9, .code = 16, .volume = 64, .duration = 0};
         fresh();
-        EXPECT(twimbor_write_redundant(REPORT, 100, count, count > 0 ? OLDEST : out, count > 1 ? OLDER : out, output, bytes) == 0);
-        EXPECT(has_bytes(want, bytes));
+        twimbor_older_report first = count > 0 ? OLDEST : out, second = count > 1 ? OLDER : out;
+        EXPECT(twimbor_write_redundant(TWIMBOR_KEYS, REPORT, 100, count, first, second, output, bytes) == 0 && has_bytes(want, bytes));
     }
     EXPECT(write_redundant(3, sizeof output) == TWIMBOR_OUT_OF_RANGE && has(NULL));
     EXPECT(write_redundant(0x10001, sizeof output) == TWIMBOR_OUT_OF_RANGE && has(NULL));
@@ -475,6 +602,7 @@ static void writing_redundant(void)
 /* One number out of its range each, in the first or the second older report, and with no room too. */
 static void out_of_range(void)
 {
+    twimbor_codes keys = TWIMBOR_KEYS;
     static const twimbor_older_report older[] = {
         {.timestamp = 0x3D8 - 16384u, .code = 5, .volume = 10, .duration = 400},
         {.timestamp = 0x3D9, .code = 5, .volume = 10, .duration = 400},
@@ -486,22 +614,23 @@ static void out_of_range(void)
     fresh();
     for (size_t i = 0; i < sizeof older / sizeof *older; i++)
         for (size_t room = 0; room <= sizeof output; room += sizeof output) {
-            EXPECT(twimbor_write_redundant(REPORT, 100, 1, older[i], OLDER, output, room) == TWIMBOR_OUT_OF_RANGE && has(NULL));
-            EXPECT(twimbor_write_redundant(REPORT, 100, 2, older[i], OLDER, output, room) == TWIMBOR_OUT_OF_RANGE && has(NULL));
-            EXPECT(twimbor_write_redundant(REPORT, 100, 2, OLDEST, older[i], output, room) == TWIMBOR_OUT_OF_RANGE && has(NULL));
+            EXPECT(twimbor_write_redundant(keys, REPORT, 100, 1, older[i], OLDER, output, room) == TWIMBOR_OUT_OF_RANGE && has(NULL));
+            EXPECT(twimbor_write_redundant(keys, REPORT, 100, 2, older[i], OLDER, output, room) == TWIMBOR_OUT_OF_RANGE && has(NULL));
+            EXPECT(twimbor_write_redundant(keys, REPORT, 100, 2, OLDEST, older[i], output, room) == TWIMBOR_OUT_OF_RANGE && has(NULL));
         }
     static const uint32_t redundant_types[] = {101, 128, 256 + 100, UINT32_MAX};
     for (size_t i = 0; i < sizeof redundant_types / sizeof *redundant_types; i++)
-        EXPECT(twimbor_write_redundant(REPORT, redundant_types[i], 0, OLDEST, OLDER, output, 40) == TWIMBOR_OUT_OF_RANGE && has(NULL));
+        EXPECT(twimbor_write_redundant(keys, REPORT, redundant_types[i], 0, OLDEST, OLDER, output, 40) == TWIMBOR_OUT_OF_RANGE
+            && has(NULL));
     twimbor_report wide = REPORT;
     wide.payload_type = 256 + 101;
-    EXPECT(twimbor_write_redundant(wide, 100, 0, OLDEST, OLDER, output, 40) == TWIMBOR_OUT_OF_RANGE && has(NULL));
+    EXPECT(twimbor_write_redundant(keys, wide, 100, 0, OLDEST, OLDER, output, 40) == TWIMBOR_OUT_OF_RANGE && has(NULL));
 
     /* As far back as the field reaches. */
     twimbor_older_report far = OLDEST;
     far.timestamp = 0x3D8 - 16383u;
     far.duration = 65535;
-    EXPECT(twimbor_write_redundant(REPORT, 0, 1, far, OLDER, output, 25) == 0);
+    EXPECT(twimbor_write_redundant(keys, REPORT, 0, 1, far, OLDER, output, 25) == 0);
     static const uint8_t farthest[] = {
         0x80, 0x80, 0x00, 0x07, 0x00, 0x00, 0x03, 0xD8, 0x11, 0x22, 0x33, 0x44,
         0xE5, 0xFF, 0xFC, 0x04, 0x65, 0x05, 0x8A, 0xFF, 0xFF, 0x07, 0x14, 0x00, 0x64,
@@ -702,7 +831,7 @@ static void figure_5(void)
     };
     static const twimbor_segment one = {.offset = 11200, .code = 1, .duration = 1760, .volume = 20, .ended = true, .marked = false};
     twimbor_table *table = opened_for_both();
-    EXPECT(twimbor_open_redundant(table, 100, 102, 0x5234A8, 0) == 0);
+    EXPECT(twimbor_open_redundant(table, TWIMBOR_KEYS, 100, 102, 0x5234A8, 0) == 0);
     EXPECT(is_received(table, packet, sizeof packet, 1, 1, 1) && entries[0] == ENTRY(0, 1, 0));
     EXPECT(same_segment(twimbor_segment_at(table, 0), one));
     twimbor_walker walker;
@@ -740,7 +869,7 @@ static const struct {
     {101, 0, 3, {5, 0x0A, 0x01}, ENTRY(TWIMBOR_NOT_ONE_REPORT, 0, 0)},
     {0, 16383, 5, {5, 0x0A, 0x01, 0x90, 0}, PASSED_OVER},
     {101, 0, 8, {5, 0x0A, 0x01, 0x90, 5, 0x0A, 0x01, 0x90}, ENTRY(TWIMBOR_PACKED, 0, 0)},
-    {101, 0, 4, {16, 0x0A, 0x01, 0x90}, ENTRY(TWIMBOR_CODE_TOO_HIGH, 0, 0)},
+    {101, 0, 4, {16, 0x0A, 0x01, 0x90}, ENTRY(TWIMBOR_CODE_NOT_IN_SET, 0, 0)},
     {101, 0, 4, {5, 0x0A, 0, 0}, ENTRY(TWIMBOR_NO_DURATION, 0, 0)},
     {101, 0, 4, {5, 0xC3, 0, 1}, ENTRY(0, 0, 1)},                                   /* E, R, louder, shorter */
     {101, 0, 4, {4, 0x3F, 0xFF, 0xFF}, ENTRY(0, 1, 1)},                             /* before the segment held */
@@ -837,6 +966,105 @@ static void kinds(void)
     }
 }
 
+/* Both sides of a set's edge, in each call that takes one or has it from a table. */
+static const struct {
+    twimbor_codes codes;
+    uint32_t code;
+    bool is_in;
+} sets[] = {
+    {{0xFFFF, 0, 0, 0}, 15, true}, {{0xFFFF, 0, 0, 0}, 16, false}, {{0xFFFF, 0, 0, 0}, 64, false},
+    {{0xFFFF, 0x44, 0, 0}, 66, true}, {{0xFFFF, 0x44, 0, 0}, 67, false}, {{0xFFFF, 0x44, 0, 0}, 70, true},
+    {{0, 4, 0, 0}, 66, true}, {{0, 4, 0, 0}, 2, false}, {{0, 4, 0, 0}, 130, false},
+    {{0, 0, 0x8000000000000000, 0}, 191, true}, {{0, 0, 0x8000000000000000, 0}, 192, false},
+    {{0, 0, 0, 0x8000000000000000}, 255, true}, {{0, 0, 0, 0x8000000000000000}, 0, false},
+    {{UINT64_MAX, UINT64_MAX, UINT64_MAX, UINT64_MAX}, 0, true}, {{UINT64_MAX, UINT64_MAX, UINT64_MAX, UINT64_MAX}, 255, true},
+    {{0, 0, 0, 0}, 0, false}, {{0, 0, 0, 0}, 255, false},
+};
+
+static void writing_sets(twimbor_codes codes, uint32_t code, uint8_t refusal)
+{
+    twimbor_report report = FIRST;
+    twimbor_older_report older = OLDER;
+    twimbor_plan plan = P7;
+    report.code = older.code = plan.code = code;
+    fresh();
+    EXPECT(twimbor_write(codes, report, output, 16) == refusal && output[12] == (refusal == 0 ? code : 0xAB));
+    fresh();
+    EXPECT(twimbor_write_redundant(codes, report, 100, 0, OLDER, OLDER, output, 17) == refusal && (refusal == 0 || has(NULL)));
+    report = REPORT;
+    report.code = twimbor_codes_lowest(codes).code;
+    fresh();
+    EXPECT(twimbor_write_redundant(codes, report, 100, 1, older, OLDER, output, 25) == refusal && (refusal == 0 || has(NULL)));
+    twimbor_count_result count = twimbor_report_count(codes, plan);
+    EXPECT(count.refusal == refusal && count.reports == (refusal == 0 ? 3 : 0));
+    fresh();
+    EXPECT(twimbor_write_report(codes, plan, 1, output, 16) == refusal && output[12] == (refusal == 0 ? code : 0xAB));
+}
+
+static void receiving_sets(twimbor_codes codes, uint8_t code, uint8_t refusal)
+{
+    static const twimbor_report zeros;
+    uint8_t packet[16];
+    memcpy(packet, REPORTS[0], 16);
+    packet[12] = code;
+    twimbor_report report = FIRST;
+    report.code = code;
+    twimbor_read_result r = twimbor_read(codes, packet, 16);
+    EXPECT(r.refusal == refusal && same_report(r.report, refusal == 0 ? report : zeros));
+    packet[14] = packet[15] = 0;
+    EXPECT(twimbor_read(codes, packet, 16).refusal == (refusal == 0 ? TWIMBOR_NO_DURATION : refusal));
+    memcpy(packet + 14, REPORTS[0] + 14, 2);
+
+    size_t count = refusal == 0;
+    twimbor_table *table = opened();
+    table->head.codes = codes;
+    EXPECT(twimbor_is_valid(table) && twimbor_receive(table, packet, 16).refusal == refusal && table->head.count == count);
+    table = opened();
+    table->head.codes = codes;
+    EXPECT(captured(twimbor_receive_capture(table, frames, put_frame(0, packet, 16)), count, 18, count, 1 - count, 0));
+    table = opened_for_both();
+    table->head.codes = codes;
+    EXPECT(is_received(table, packet, 16, 1, 1, count) && entries[0] == (refusal == 0 ? ENTRY(0, 1, 0) : refusal));
+
+    /* A table that holds it: 16 if it is not in the set, in a place that holds none nothing. */
+    table = opened();
+    table->head.codes = codes;
+    twimbor_set_segment(table, 0, (twimbor_segment){.offset = 0, .code = code, .duration = 1});
+    EXPECT(twimbor_is_valid(table));
+    table->head.count = 1;
+    EXPECT(twimbor_is_valid(table) == (refusal == 0));
+    EXPECT(twimbor_receive(table, packet, 0).refusal == (refusal == 0 ? TWIMBOR_TOO_SHORT : TWIMBOR_INVALID_TABLE));
+    twimbor_event_result e = twimbor_event_at(table, 1);
+    EXPECT(e.refusal == (refusal == 0 ? 0 : TWIMBOR_INVALID_TABLE) && e.event.code == (refusal == 0 ? code : 0));
+    EXPECT(same_codes(table->head.codes, codes) && around_stays());
+}
+
+static void taking_sets(void)
+{
+    for (size_t i = 0; i < sizeof sets / sizeof *sets; i++) {
+        twimbor_codes codes = sets[i].codes;
+        writing_sets(codes, sets[i].code, sets[i].is_in ? 0 : TWIMBOR_OUT_OF_RANGE);
+        writing_sets(codes, 256 + sets[i].code, TWIMBOR_OUT_OF_RANGE);
+        receiving_sets(codes, (uint8_t)sets[i].code, sets[i].is_in ? 0 : TWIMBOR_CODE_NOT_IN_SET);
+
+        static twimbor_table zeros;
+        bool empty = same_codes(codes, NO_CODES);
+        twimbor_table table, want = zeros;
+        if (!empty) {
+            want.head = HEAD;
+            want.head.codes = codes;
+        }
+        memset(&table, 0xAB, sizeof table);
+        EXPECT(twimbor_open(&table, codes, 101, HEAD.ssrc, HEAD.origin) == (empty ? TWIMBOR_OUT_OF_RANGE : 0) && same_table(&table, &want));
+        if (!empty) {
+            want.head.both_types = 1;
+            want.head.redundant_type = 100;
+        }
+        uint8_t refusal = twimbor_open_redundant(&table, codes, 101, 100, HEAD.ssrc, HEAD.origin);
+        EXPECT(refusal == (empty ? TWIMBOR_OUT_OF_RANGE : 0) && same_table(&table, &want));
+    }
+}
+
 static void reading_entries(void)
 {
     static const struct {
@@ -887,11 +1115,12 @@ static void segments(void)
 /* Words and keys at their edges; rust/tests/layout.rs compares all of them. In fewer bits the last numbers look like 0 or 1. */
 static void words(void)
 {
-    static const uint64_t unknown[] = {20, 255, 256, 257, 0x100000000, 0x100000001, UINT64_MAX};
+    static const uint64_t unknown[] = {21, 255, 256, 257, 0x100000000, 0x100000001, UINT64_MAX};
     static const uint32_t no_key[] = {16, 256, 257, 0x10001, UINT32_MAX};
     EXPECT(strcmp(twimbor_refusal_text(0), "nothing is refused") == 0);
     EXPECT(strcmp(twimbor_refusal_text(18), "the redundant packet's block headers run past its end") == 0);
     EXPECT(strcmp(twimbor_refusal_text(19), "the redundant packet's block lengths come to more than its data") == 0);
+    EXPECT(strcmp(twimbor_refusal_text(20), "the text is no list of event codes, or the set has none") == 0);
     for (size_t i = 0; i < sizeof unknown / sizeof *unknown; i++)
         EXPECT(strcmp(twimbor_refusal_text(unknown[i]), "a refusal that this version does not know") == 0);
     EXPECT(twimbor_key_character(0) == '0' && twimbor_key_character(15) == 'D');
@@ -900,6 +1129,9 @@ static void words(void)
 
 int main(void)
 {
+    reading_codes();
+    writing_codes();
+    telling_codes();
     packets();
     plans();
     opening();
@@ -922,6 +1154,7 @@ int main(void)
     receiving_mixed();
     receiving_many();
     kinds();
+    taking_sets();
     reading_entries();
     segments();
     words();

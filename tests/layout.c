@@ -5,6 +5,24 @@
 #define AT(type, field, place, bytes) \
     _Static_assert(offsetof(type, field) == place && sizeof((*(type *)0).field) == bytes, #type "." #field)
 
+SIZE(twimbor_codes, 32);
+AT(twimbor_codes, from_0, 0, 8);
+AT(twimbor_codes, from_64, 8, 8);
+AT(twimbor_codes, from_128, 16, 8);
+AT(twimbor_codes, from_192, 24, 8);
+
+SIZE(twimbor_codes_result, 40);
+AT(twimbor_codes_result, codes, 0, 32);
+AT(twimbor_codes_result, refusal, 32, 1);
+
+SIZE(twimbor_text_result, 16);
+AT(twimbor_text_result, bytes, 0, 8);
+AT(twimbor_text_result, refusal, 8, 1);
+
+SIZE(twimbor_lowest_result, 8);
+AT(twimbor_lowest_result, code, 0, 4);
+AT(twimbor_lowest_result, refusal, 4, 1);
+
 SIZE(twimbor_report, 36);
 AT(twimbor_report, marker, 0, 1);
 AT(twimbor_report, payload_type, 4, 4);
@@ -72,18 +90,19 @@ AT(twimbor_block, payload_type, 16, 1);
 AT(twimbor_block, offset, 18, 2);
 AT(twimbor_block, primary, 20, 1);
 
-SIZE(twimbor_head, 24);
+SIZE(twimbor_head, 56);
 AT(twimbor_head, payload_type, 0, 1);
 AT(twimbor_head, both_types, 1, 1);
 AT(twimbor_head, redundant_type, 2, 1);
 AT(twimbor_head, ssrc, 4, 4);
 AT(twimbor_head, origin, 8, 4);
-AT(twimbor_head, count, 16, 8);
+AT(twimbor_head, codes, 16, 32);
+AT(twimbor_head, count, 48, 8);
 
-SIZE(twimbor_table, 1560);
-AT(twimbor_table, head, 0, 24);
-AT(twimbor_table, keys, 24, 1024);
-AT(twimbor_table, heard, 1048, 512);
+SIZE(twimbor_table, 1592);
+AT(twimbor_table, head, 0, 56);
+AT(twimbor_table, keys, 56, 1024);
+AT(twimbor_table, heard, 1080, 512);
 
 SIZE(twimbor_segment, 12);
 AT(twimbor_segment, offset, 0, 4);
@@ -128,9 +147,9 @@ SIZE(twimbor_listed, 16);
 AT(twimbor_listed, refusal, 0, 1);
 AT(twimbor_listed, events, 8, 8);
 
-SIZE(twimbor_opened, 1568);
-AT(twimbor_opened, table, 0, 1560);
-AT(twimbor_opened, refusal, 1560, 1);
+SIZE(twimbor_opened, 1600);
+AT(twimbor_opened, table, 0, 1592);
+AT(twimbor_opened, refusal, 1592, 1);
 
 #define IS(name, number) _Static_assert(name == number, #name)
 IS(TWIMBOR_PLACES, 128);
@@ -139,8 +158,12 @@ IS(TWIMBOR_PACKET_BYTES, 12 + 4);
 IS(TWIMBOR_OLDER_REPORTS, 2);
 IS(TWIMBOR_REDUNDANT_BYTES, 12 + 2 * 4 + 1 + 3 * 4);
 IS(TWIMBOR_ENTRIES_OF_1500, (1500 - 12 - 1) / 4 + 1); /* every block empty and of the event's type */
+/* Ranges of two with one left out between: "0", 3 like "2-3", 30 like "11-12", 52 like "101-102", and the commas. */
+IS(TWIMBOR_CODES_BYTES, 1 + 3 * 3 + 30 * 5 + 52 * 7 + 85);
+IS(TWIMBOR_CODE_NOT_IN_SET, 8);
 IS(TWIMBOR_LIST_TOO_SMALL, 15);
 IS(TWIMBOR_INVALID_TABLE, 16);
 IS(TWIMBOR_PACKED, 17);
 IS(TWIMBOR_HEADERS_RUN_OUT, 18);
 IS(TWIMBOR_BLOCKS_TOO_LONG, 19);
+IS(TWIMBOR_NO_CODES, 20);

@@ -38,6 +38,9 @@ INLINE bool passes(const twimbor_table *t)
         keys |= t->keys[i];
         heard |= t->heard[i];
     }
-    /* offsets below 2^31, codes below 16, volumes below 64: powers of two, so one bit of all of them tells */
-    return keys >> 39 == 0 && code(keys) < 16 && heard >> 24 == 0;
+    /* offsets below 2^31, volumes below 64: powers of two, so one bit of all of them tells; also of codes, if the set has all 16 keys */
+    if (keys >> 39 != 0 || heard >> 24 != 0) return false;
+    if (code(keys) < 16 && (uint16_t)t->head.codes.from_0 == 0xffff) return true;
+    for (i = 0; i < n; i++) if (!plain_has(&t->head.codes, code(t->keys[i]))) return false;
+    return true;
 }

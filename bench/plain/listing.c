@@ -2,7 +2,6 @@
 #include "plain.h"
 #include <stdio.h>
 #include <stdlib.h>
-#include <string.h>
 #include <unistd.h>
 
 static uint8_t buffer[131072];
@@ -43,7 +42,7 @@ int main(void)
         return 0;
     }
     static twimbor_table t;
-    t.head = (twimbor_head){.payload_type = (uint8_t)type, .ssrc = ssrc, .origin = origin};
+    t.head = (twimbor_head){.payload_type = (uint8_t)type, .ssrc = ssrc, .origin = origin, .codes = TWIMBOR_KEYS};
     uint64_t taken = 0, refused = 0, packed = 0;
     size_t kept = 0;
     ssize_t got;

@@ -5,11 +5,11 @@
  * for each field, which is fastest. */
 #include "plain.h"
 
-static bool in_range(const twimbor_plan *p)
+static bool in_range(const twimbor_codes *codes, const twimbor_plan *p)
 {
     /* less 1, a 0 becomes the largest number */
-    return p->payload_type <= 127 && p->code <= 15 && p->volume <= 63 && p->period - 1 < 65535 && p->segment_size - 1 < 65535
-        && p->length - 1 < 16 * p->segment_size;
+    return p->payload_type <= 127 && plain_has(codes, p->code) && p->volume <= 63 && p->period - 1 < 65535
+        && p->segment_size - 1 < 65535 && p->length - 1 < 16 * p->segment_size;
 }
 
 /* A segment is reported once for each period that begins in it, the last time at its end, and there twice more. */
@@ -18,19 +18,19 @@ static uint32_t reports_of(uint32_t units, uint32_t period)
     return (units - 1) / period + 3;
 }
 
-twimbor_count_result plain_report_count(twimbor_plan plan)
+twimbor_count_result plain_report_count(twimbor_codes codes, twimbor_plan plan)
 {
-    if (!in_range(&plan)) return (twimbor_count_result){0, 12};
+    if (!in_range(&codes, &plan)) return (twimbor_count_result){0, 12};
     uint32_t size = plan.segment_size, period = plan.period;
     if (plan.length <= size) return (twimbor_count_result){reports_of(plan.length, period), 0};
     uint32_t full = (plan.length - 1) / size, rest = plan.length - full * size;
     return (twimbor_count_result){full * reports_of(size, period) + reports_of(rest, period), 0};
 }
 
-uint8_t plain_write_report(twimbor_plan plan, uint32_t k, uint8_t *output, size_t bytes)
+uint8_t plain_write_report(twimbor_codes codes, twimbor_plan plan, uint32_t k, uint8_t *output, size_t bytes)
 {
-    if (!in_range(&plan)) return 12;
-    if (bytes < 16) return k - 1 < plain_report_count(plan).reports ? 14 : 13;
+    if (!in_range(&codes, &plan)) return 12;
+    if (bytes < 16) return k - 1 < plain_report_count(codes, plan).reports ? 14 : 13;
     uint32_t size = plan.segment_size, period = plan.period, each = reports_of(size, period);
     uint32_t segment = (k - 1) / each, units = (k - 1) % each * period;
     uint64_t before = (uint64_t)segment * size;

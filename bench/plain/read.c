@@ -1,7 +1,7 @@
 /* The reader in plain C, behind the same boundary. */
 #include "plain.h"
 
-twimbor_read_result plain_read(const uint8_t *p, size_t n)
+twimbor_read_result plain_read(twimbor_codes codes, const uint8_t *p, size_t n)
 {
     twimbor_read_result r = {0};
     if (n < 12) { r.refusal = 1; return r; }
@@ -20,7 +20,7 @@ twimbor_read_result plain_read(const uint8_t *p, size_t n)
         end -= pad;
     }
     if (end - at != 4) { r.refusal = plain_misfit(end - at); return r; }
-    if (p[at] > 15) { r.refusal = 8; return r; }
+    if (!plain_has(&codes, p[at])) { r.refusal = 8; return r; }
     uint32_t duration = (uint32_t)p[at + 2] << 8 | p[at + 3];
     if (duration == 0) { r.refusal = 9; return r; }
     r.report.marker = p[1] >> 7;

@@ -4,7 +4,6 @@
  * blocks. Tried beside it: `take` as a function, which costs 4 ns with three blocks; a report read as one number, and a search without
  * branches, which gain nothing. The walker trusts its cursor, which ours tests. */
 #include "inline.h"
-#include <string.h>
 
 /* Where the payload begins and ends, or the refusal, 1 to 4. */
 INLINE uint8_t payload_of(const uint8_t *p, size_t n, size_t *start, size_t *end)
@@ -54,7 +53,7 @@ INLINE uint8_t headers(const uint8_t *p, size_t at, size_t end, uint32_t type, s
 INLINE uint32_t take(twimbor_table *t, const uint8_t *b, size_t length, uint32_t timestamp, uint32_t mark)
 {
     if (length != 4) return plain_misfit(length);
-    if (b[0] > 15) return 8;
+    if (!plain_has(&t->head.codes, b[0])) return 8;
     uint32_t units = (uint32_t)b[2] << 8 | b[3];
     if (units == 0) return 9;
     uint32_t offset = timestamp - t->head.origin;

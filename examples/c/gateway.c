@@ -20,12 +20,16 @@
 
 enum {
     CALLS = 3,
-    PAYLOAD_TYPE = 101,     /* of the telephone events, agreed on before (SDP) */
+    PAYLOAD_TYPE = 101,     /* of the telephone events, agreed on before (SDP); which of them, DESCRIPTION tells */
     RATE = 8000,            /* timestamp units in a second, agreed on with it */
     SILENCE = 5,            /* seconds after which a gateway that hears nothing hangs up */
     RECEIVER_REPORT = 201,  /* RTCP packet types (RFC 3550) */
     BYE = 203
 };
+
+/* The line of the session description that lists the events, and what it says. */
+static const char DESCRIPTION[] = "a=fmtp:101 0-15,66,70";
+static twimbor_codes agreed;
 
 typedef struct {
     int number;
@@ -41,9 +45,19 @@ static void stop(const char *what, const char *why)
     exit(1);
 }
 
+static twimbor_codes codes_of(const char *line)
+{
+    char before[32];
+    int bytes = snprintf(before, sizeof before, "a=fmtp:%d ", PAYLOAD_TYPE);
+    if (strncmp(line, before, (size_t)bytes) != 0) stop(line, "not of the telephone events");
+    twimbor_codes_result read = twimbor_read_codes(line + bytes, strlen(line + bytes));
+    if (read.refusal != 0) stop(line, twimbor_refusal_text(read.refusal));
+    return read.codes;
+}
+
 static void open_table(call *c, uint32_t ssrc, uint32_t origin)
 {
-    uint8_t refusal = twimbor_open(&c->table, PAYLOAD_TYPE, ssrc, origin);
+    uint8_t refusal = twimbor_open(&c->table, agreed, PAYLOAD_TYPE, ssrc, origin);
     if (refusal != 0) stop("open", twimbor_refusal_text(refusal));
     c->has_source = true;
     c->told_count = 0;
@@ -63,7 +77,10 @@ static void tell(call *c, const twimbor_event *event, const char *remark)
         if (c->told[i].start == event->start && c->told[i].code == event->code) return;
     c->told[c->told_count++] = *event;
     unsigned ms = event->length / (RATE / 1000);
-    printf("call %d: key %c, %u ms%s\n", c->number, twimbor_key_character(event->code), ms, remark);
+    printf("call %d: ", c->number);
+    if (twimbor_codes_contain(TWIMBOR_KEYS, event->code)) printf("key %c", twimbor_key_character(event->code));
+    else printf("event %d", event->code);
+    printf(", %u ms%s\n", ms, remark);
 }
 
 static void tell_ended(call *c)
@@ -93,7 +110,7 @@ static void finish(call *c, const char *why)
 static void receive(call *c, const uint8_t *packet, size_t bytes)
 {
     if (!c->has_source) {
-        twimbor_read_result first = twimbor_read(packet, bytes);
+        twimbor_read_result first = twimbor_read(agreed, packet, bytes);
         if (first.refusal != 0 || first.report.payload_type != PAYLOAD_TYPE) return;
         /* A minute of room for reports that were sent before this one and come after it. */
         open_table(c, first.report.ssrc, first.report.timestamp - 60 * RATE);
@@ -147,12 +164,12 @@ static void send_packet(int to, const uint8_t *packet, size_t bytes)
 /* Sends the first reports of a key: each two are swapped, every fifth is lost, and every fourth comes twice. */
 static void send_key(int to, twimbor_plan plan, uint32_t reports)
 {
-    twimbor_count_result count = twimbor_report_count(plan);
+    twimbor_count_result count = twimbor_report_count(agreed, plan);
     if (count.refusal != 0) stop("plan", twimbor_refusal_text(count.refusal));
     for (uint32_t n = 0; n < count.reports && n < reports; n++) {
         uint8_t packet[TWIMBOR_PACKET_BYTES];
         uint32_t k = (n ^ 1) < count.reports ? (n ^ 1) + 1 : n + 1;
-        uint8_t refusal = twimbor_write_report(plan, k, packet, sizeof packet);
+        uint8_t refusal = twimbor_write_report(agreed, plan, k, packet, sizeof packet);
         if (refusal != 0) stop("report", twimbor_refusal_text(refusal));
         for (int copies = k % 5 == 0 ? 0 : k % 4 == 0 ? 2 : 1; copies > 0; copies--) send_packet(to, packet, sizeof packet);
     }
@@ -168,6 +185,8 @@ static const struct {
     /* Short segments, as many as a table holds, and two keys more. */
     {2, 0, 6400, 400, ALL}, {2, 1, 6400, 400, ALL}, {2, 2, 6400, 400, ALL}, {2, 3, 6400, 400, ALL}, {2, 4, 6400, 400, ALL},
     {2, 5, 6400, 400, ALL}, {2, 6, 6400, 400, ALL}, {2, 7, 6400, 400, ALL}, {2, 8, 960, 65535, ALL}, {2, 9, 960, 65535, ALL},
+    /* The line's ringing tone. */
+    {1, 70, 16000, 65535, ALL},
     /* Still held at the hang-up. */
     {0, 7, 960, 65535, 2},
 };
@@ -175,6 +194,7 @@ static const struct {
 static void send_all(const struct sockaddr_in *gateway)
 {
     static const uint8_t sound[12 + 160] = {0x80}, packed[20] = {0x80, PAYLOAD_TYPE, [11] = 7, [15] = 100, [19] = 100};
+    static const uint8_t flash[16] = {0x80, PAYLOAD_TYPE, [11] = 7, [12] = 16, [15] = 100}; /* on which nobody agreed */
     static const uint8_t bye[] = {0x80, RECEIVER_REPORT, 0, 1, 0, 0, 0, 7, 0x81, BYE, 0, 1, 0, 0, 0, 7};
     uint32_t now[CALLS] = {1000, UINT32_MAX - 1000, 2000000000};
     int to[CALLS];
@@ -194,6 +214,7 @@ static void send_all(const struct sockaddr_in *gateway)
         now[c] += plan.length + RATE;
     }
     send_packet(to[0], packed, sizeof packed);
+    send_packet(to[0], flash, sizeof flash);
     for (int i = 0; i < CALLS; i++) {
         send_packet(to[i], bye, sizeof bye);
         close(to[i]);
@@ -206,6 +227,7 @@ int main(void)
     struct pollfd polled[CALLS];
     struct sockaddr_in ports[CALLS];
     setvbuf(stdout, NULL, _IOLBF, BUFSIZ);
+    agreed = codes_of(DESCRIPTION);
     for (int i = 0; i < CALLS; i++) {
         socklen_t bytes = sizeof ports[i];
         struct sockaddr_in any = {.sin_family = AF_INET, .sin_addr.s_addr = htonl(INADDR_LOOPBACK)};

@@ -12,13 +12,13 @@ int main(void)
         .segment_size = 65535,
     };
     twimbor_table table;
-    if (twimbor_open(&table, plan.payload_type, plan.ssrc, plan.start) != 0) return 1;
+    if (twimbor_open(&table, TWIMBOR_KEYS, plan.payload_type, plan.ssrc, plan.start) != 0) return 1;
 
-    twimbor_count_result count = twimbor_report_count(plan);
+    twimbor_count_result count = twimbor_report_count(TWIMBOR_KEYS, plan);
     if (count.refusal != 0) return 1;
     for (uint32_t k = 1; k <= count.reports; k++) {
         uint8_t packet[TWIMBOR_PACKET_BYTES];
-        if (twimbor_write_report(plan, k, packet, sizeof packet) != 0) return 1;
+        if (twimbor_write_report(TWIMBOR_KEYS, plan, k, packet, sizeof packet) != 0) return 1;
         twimbor_received received = twimbor_receive(&table, packet, sizeof packet);
         if (received.refusal != 0) printf("packet %u is refused: %s\n", (unsigned)k, twimbor_refusal_text(received.refusal));
     }

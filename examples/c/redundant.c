@@ -19,9 +19,9 @@ static packet write_packet(twimbor_plan plan, uint32_t k, twimbor_older_report *
     packet p = {{0}, 0};
     uint8_t plain[TWIMBOR_PACKET_BYTES];
     uint32_t count = k > TWIMBOR_OLDER_REPORTS ? TWIMBOR_OLDER_REPORTS : k - 1;
-    if (twimbor_write_report(plan, k, plain, sizeof plain) != 0) return p;
-    twimbor_report report = twimbor_read(plain, sizeof plain).report;
-    if (twimbor_write_redundant(report, REDUNDANT, count, older[0], older[1], p.bytes, sizeof p.bytes) != 0) return p;
+    if (twimbor_write_report(TWIMBOR_KEYS, plan, k, plain, sizeof plain) != 0) return p;
+    twimbor_report report = twimbor_read(TWIMBOR_KEYS, plain, sizeof plain).report;
+    if (twimbor_write_redundant(TWIMBOR_KEYS, report, REDUNDANT, count, older[0], older[1], p.bytes, sizeof p.bytes) != 0) return p;
     p.size = TWIMBOR_REDUNDANT_BYTES - 8 * (TWIMBOR_OLDER_REPORTS - count);
 
     twimbor_older_report now = {report.timestamp, report.code, report.ended, report.volume, report.duration};
@@ -65,11 +65,11 @@ int main(void)
     };
     twimbor_older_report older[TWIMBOR_OLDER_REPORTS] = {{0}};
     twimbor_table table;
-    if (twimbor_open_redundant(&table, EVENT, REDUNDANT, plan.ssrc, plan.start) != 0) return 1;
+    if (twimbor_open_redundant(&table, TWIMBOR_KEYS, EVENT, REDUNDANT, plan.ssrc, plan.start) != 0) return 1;
 
     packet p, second = {{0}, 0}; /* the first packet of the second segment */
     unsigned lost = 0, taken = 0;
-    uint32_t reports = twimbor_report_count(plan).reports;
+    uint32_t reports = twimbor_report_count(TWIMBOR_KEYS, plan).reports;
     for (uint32_t k = 1; k <= reports; k++) {
         p = write_packet(plan, k, older);
         if (p.size == 0) return 1;

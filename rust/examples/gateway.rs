@@ -9,12 +9,14 @@ use std::io::ErrorKind::{Interrupted, TimedOut, WouldBlock};
 use std::net::{Ipv4Addr, SocketAddr, UdpSocket};
 use std::thread;
 use std::time::Duration;
-use twimbor::{Event, Plan, Refusal, Report, Table};
+use twimbor::{Codes, Event, Plan, Refusal, Report, Table};
 
 type Result<T> = std::result::Result<T, Box<dyn Error + Send + Sync>>;
 
 /// Of the telephone events, agreed on before (SDP).
 const PAYLOAD_TYPE: u32 = 101;
+/// The line of the session description that lists the events.
+const DESCRIPTION: &str = "a=fmtp:101 0-15,66,70";
 /// Timestamp units in a second, agreed on with it.
 const RATE: u32 = 8000;
 /// A call from which nothing is heard for so long has hung up.
@@ -22,6 +24,13 @@ const SILENCE: Duration = Duration::from_secs(5);
 /// RTCP packet types (RFC 3550).
 const RECEIVER_REPORT: u8 = 201;
 const BYE: u8 = 203;
+
+/// The codes that such a line agrees on.
+fn codes_of(line: &str) -> Result<Codes> {
+    let list = line.strip_prefix(&format!("a=fmtp:{PAYLOAD_TYPE} "));
+    let list = list.ok_or_else(|| format!("{line}: not of the telephone events"))?;
+    list.parse().map_err(|refusal| format!("{line}: {refusal}").into())
+}
 
 struct Call {
     number: usize,
@@ -33,13 +42,13 @@ struct Call {
 }
 
 impl Call {
-    fn new(number: usize) -> Result<Call> {
-        let table = Table::open(PAYLOAD_TYPE, 0, 0)?;
+    fn new(number: usize, codes: Codes) -> Result<Call> {
+        let table = Table::open(codes, PAYLOAD_TYPE, 0, 0)?;
         Ok(Call { number, has_source: false, table, told: Vec::new() })
     }
 
     fn open_table(&mut self, ssrc: u32, origin: u32) -> Result<()> {
-        self.table = Table::open(PAYLOAD_TYPE, ssrc, origin)?;
+        self.table = Table::open(self.table.codes(), PAYLOAD_TYPE, ssrc, origin)?;
         self.has_source = true;
         self.told.clear();
         Ok(())
@@ -50,7 +59,11 @@ impl Call {
         if !self.told.contains(&(event.start, event.code)) {
             self.told.push((event.start, event.code));
             let ms = event.length / (RATE / 1000);
-            println!("call {}: key {}, {ms} ms{remark}", self.number, event.key());
+            let name = match Codes::KEYS.contains(event.code) {
+                true => format!("key {}", event.key()),
+                false => format!("event {}", event.code),
+            };
+            println!("call {}: {name}, {ms} ms{remark}", self.number);
         }
     }
 
@@ -81,7 +94,7 @@ impl Call {
 
     fn receive(&mut self, packet: &[u8]) -> Result<()> {
         if !self.has_source {
-            match Report::read(packet) {
+            match Report::read(self.table.codes(), packet) {
                 // A minute of room for reports that were sent before this one and come after it.
                 Ok(report) if report.payload_type == PAYLOAD_TYPE => {
                     self.open_table(report.ssrc, report.timestamp.wrapping_sub(60 * RATE))?;
@@ -152,8 +165,8 @@ fn send(to: &UdpSocket, packet: &[u8]) -> Result<()> {
 
 /// Sends the first reports of a key: each two are swapped, every fifth is lost, and every fourth
 /// comes twice.
-fn send_key(to: &UdpSocket, plan: &Plan, reports: usize) -> Result<()> {
-    let packets: Vec<_> = plan.packets()?.collect();
+fn send_key(to: &UdpSocket, codes: Codes, plan: &Plan, reports: usize) -> Result<()> {
+    let packets: Vec<_> = plan.packets(codes)?.collect();
     for n in 0..packets.len().min(reports) {
         let k = if n ^ 1 < packets.len() { (n ^ 1) + 1 } else { n + 1 };
         let copies = if k % 5 == 0 { 0 } else { 1 + usize::from(k % 4 == 0) };
@@ -164,11 +177,12 @@ fn send_key(to: &UdpSocket, plan: &Plan, reports: usize) -> Result<()> {
     Ok(())
 }
 
-fn send_all(gateway: &[SocketAddr]) -> Result<()> {
+fn send_all(gateway: &[SocketAddr], codes: Codes) -> Result<()> {
     let sound = [&[0x80][..], &[0; 11 + 160]].concat();
     let bye = [0x80, RECEIVER_REPORT, 0, 1, 0, 0, 0, 7, 0x81, BYE, 0, 1, 0, 0, 0, 7];
     let mut packed = [0; 20];
     (packed[0], packed[1], packed[11], packed[15], packed[19]) = (0x80, 101, 7, 100, 100);
+    let flash = [&packed[..12], &[16, 0, 0, 100]].concat(); // on which nobody agreed
     let mut now = [1000, u32::MAX - 1000, 2_000_000_000];
     let mut phones = Vec::new();
     for port in gateway {
@@ -188,6 +202,8 @@ fn send_all(gateway: &[SocketAddr]) -> Result<()> {
     // Short segments, as many as a table holds, and two keys more.
     presses.extend((0..8).map(|code| (2, code, 6400, 400, ALL)));
     presses.extend([8, 9].map(|code| (2, code, 960, 65_535, ALL)));
+    // The line's ringing tone.
+    presses.push((1, 70, 16_000, 65_535, ALL));
     // Still held at the hang-up.
     presses.push((0, 7, 960, 65_535, 2));
 
@@ -205,14 +221,16 @@ fn send_all(gateway: &[SocketAddr]) -> Result<()> {
         };
         send(&phones[call], &sound)?;
         send(&phones[call], &bye[..8])?; // the receiver report alone
-        send_key(&phones[call], &plan, reports)?;
+        send_key(&phones[call], codes, &plan, reports)?;
         now[call] = now[call].wrapping_add(length + RATE);
     }
     send(&phones[0], &packed)?;
+    send(&phones[0], &flash)?;
     phones.iter().try_for_each(|phone| send(phone, &bye))
 }
 
 fn main() -> Result<()> {
+    let codes = codes_of(DESCRIPTION)?;
     let mut ports = Vec::new();
     let mut addresses = Vec::new();
     for _ in 0..3 {
@@ -220,8 +238,9 @@ fn main() -> Result<()> {
         addresses.push(port.local_addr()?);
         ports.push(port);
     }
-    let hear = |(i, port): (usize, UdpSocket)| thread::spawn(move || Call::new(i + 1)?.hear(&port));
+    let hear =
+        |(i, port): (usize, UdpSocket)| thread::spawn(move || Call::new(i + 1, codes)?.hear(&port));
     let mut threads: Vec<_> = ports.into_iter().enumerate().map(hear).collect();
-    threads.push(thread::spawn(move || send_all(&addresses)));
+    threads.push(thread::spawn(move || send_all(&addresses, codes)));
     threads.into_iter().try_for_each(|thread| thread.join().expect("a thread panicked"))
 }

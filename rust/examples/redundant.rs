@@ -2,12 +2,13 @@
 //! two of every three packets may be lost. It is received from what is left, and lists as one
 //! event.
 
-use twimbor::{Entry, OLDER_REPORTS, OlderReport, PACKET_BYTES, Plan, REDUNDANT_BYTES, Refusal};
-use twimbor::{Report, Table};
+use twimbor::{Codes, Entry, OLDER_REPORTS, OlderReport, PACKET_BYTES, Plan, REDUNDANT_BYTES};
+use twimbor::{Refusal, Report, Table};
 
-/// Of the telephone events and of redundant packets, agreed on before (SDP).
+/// Of the telephone events and of redundant packets, and which events, agreed on before (SDP).
 const PAYLOAD_TYPE: u32 = 101;
 const REDUNDANT_TYPE: u32 = 96;
+const CODES: Codes = Codes::KEYS;
 /// Timestamp units between reports: 200 ms.
 const PERIOD: u32 = 1600;
 /// A block says in 14 bits how much older it is, so segments are shorter than usual (RFC 4733,
@@ -19,8 +20,8 @@ fn packet(reports: &[Report], n: usize) -> Result<Vec<u8>, Refusal> {
     let mut packet = vec![0; REDUNDANT_BYTES];
     let older = reports[n.saturating_sub(OLDER_REPORTS)..n].iter().map(OlderReport::from);
     let bytes = match &older.collect::<Vec<_>>()[..] {
-        [] => reports[n].write(&mut packet).map(|()| PACKET_BYTES)?,
-        older => reports[n].write_redundant(REDUNDANT_TYPE, older, &mut packet)?,
+        [] => reports[n].write(CODES, &mut packet).map(|()| PACKET_BYTES)?,
+        older => reports[n].write_redundant(CODES, REDUNDANT_TYPE, older, &mut packet)?,
     };
     packet.truncate(bytes);
     Ok(packet)
@@ -49,9 +50,11 @@ fn main() -> Result<(), Refusal> {
         period: PERIOD,
         segment_size: SEGMENT_SIZE,
     };
-    let reports: Result<Vec<_>, _> = plan.packets()?.map(|packet| Report::read(&packet)).collect();
+    let packets = plan.packets(CODES)?;
+    let reports: Result<Vec<_>, _> = packets.map(|packet| Report::read(CODES, &packet)).collect();
     let reports = reports?;
-    let mut table = Table::open_redundant(PAYLOAD_TYPE, REDUNDANT_TYPE, plan.ssrc, plan.start)?;
+    let mut table =
+        Table::open_redundant(CODES, PAYLOAD_TYPE, REDUNDANT_TYPE, plan.ssrc, plan.start)?;
     for n in 0..reports.len() {
         let packet = packet(&reports, n)?;
         // The first must arrive: only a primary can be marked, and no copy stands in for it.

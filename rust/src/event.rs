@@ -2,7 +2,7 @@
 #[repr(C)]
 #[derive(Clone, Copy, Debug, Default, PartialEq, Eq, Hash)]
 pub struct Event {
-    /// The key: digits 0 to 9, then * 10, # 11, A to D 12 to 15.
+    /// The key: digits 0 to 9, then * 10, # 11, A to D 12 to 15; or another code of the table's set.
     pub code: u8,
     /// An offset: (timestamp - origin) modulo 2^32.
     pub start: u32,

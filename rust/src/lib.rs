@@ -1,7 +1,8 @@
 //! RTP packets that carry one telephone-event report (RFC 4733): a reader and a writer of packets,
 //! a sender's plan for one event, a receiving table, and the list of events that the table holds.
 //! Redundant packets (RFC 2198) carry several in blocks: a writer of them, a walker over their
-//! blocks, and a receiver.
+//! blocks, and a receiver. Which event codes are in use is a set, read from the session description
+//! or [`Codes::KEYS`].
 //!
 //! All of it is done by the static library, whose every function is proved to meet its contract.
 //! This crate gives its calls Rust's names and types.
@@ -9,7 +10,7 @@
 //! One key press, its packets planned and received, is listed as one event:
 //!
 //! ```
-//! use twimbor::{Event, Plan, Table};
+//! use twimbor::{Codes, Event, Plan, Table};
 //!
 //! let (payload_type, ssrc, origin) = (101, 0x1122_3344, 5000);
 //! let key = Plan {
@@ -23,8 +24,9 @@
 //!     period: 400,
 //!     segment_size: 65_535,
 //! };
-//! let mut table = Table::open(payload_type, ssrc, origin)?;
-//! for packet in key.packets()? {
+//! let codes = Codes::KEYS;
+//! let mut table = Table::open(codes, payload_type, ssrc, origin)?;
+//! for packet in key.packets(codes)? {
 //!     table.receive(&packet)?;
 //! }
 //! let event = Event { code: 5, start: 1000, length: 800, volume: 10, began: true, ended: true };
@@ -33,7 +35,7 @@
 //! // A report's duration ends at 65,535 units, so a key that is held longer arrives in segments,
 //! // each with a timestamp of its own. It is one event all the same.
 //! let long = Plan { start: 10_000, length: 70_000, period: 30_000, ..key };
-//! for packet in long.packets()? {
+//! for packet in long.packets(codes)? {
 //!     table.receive(&packet)?;
 //! }
 //! assert_eq!(table.segments().len(), 3);
@@ -51,6 +53,7 @@
 extern crate alloc;
 
 mod blocks;
+mod codes;
 mod event;
 mod plan;
 mod refusal;
@@ -60,6 +63,7 @@ pub mod sys;
 mod table;
 
 pub use blocks::{Block, Blocks};
+pub use codes::{CODES_BYTES, Codes, CodesIter};
 pub use event::Event;
 pub use plan::{LONGEST_EVENT, Packets, Plan};
 pub use refusal::{Refusal, UnknownRefusal};

@@ -4,7 +4,7 @@ use core::fmt;
 /// Why a call refused what it was given. It gives the first reason that holds: [`InvalidTable`]
 /// before all others, then by rising number, but [`Packed`] at the place of [`NotOneReport`], and
 /// for redundant packets [`HeadersRunOut`], [`BlocksTooLong`] and [`ListTooSmall`], in this order,
-/// right after [`OtherSsrc`].
+/// right after [`OtherSsrc`], and [`NoCodes`] before [`OutputTooSmall`].
 ///
 /// [`InvalidTable`]: Refusal::InvalidTable
 /// [`Packed`]: Refusal::Packed
@@ -13,11 +13,13 @@ use core::fmt;
 /// [`BlocksTooLong`]: Refusal::BlocksTooLong
 /// [`ListTooSmall`]: Refusal::ListTooSmall
 /// [`OtherSsrc`]: Refusal::OtherSsrc
+/// [`NoCodes`]: Refusal::NoCodes
+/// [`OutputTooSmall`]: Refusal::OutputTooSmall
 ///
 /// ```
-/// use twimbor::{Refusal, Report};
+/// use twimbor::{Codes, Refusal, Report};
 ///
-/// let refusal = Report::read(&[0x80; 11]).unwrap_err();
+/// let refusal = Report::read(Codes::KEYS, &[0x80; 11]).unwrap_err();
 /// assert_eq!(refusal, Refusal::TooShort);
 /// assert_eq!(refusal.number(), 1);
 /// assert_eq!(refusal.to_string(), "the packet has fewer than 12 bytes");
@@ -42,19 +44,20 @@ pub enum Refusal {
     OtherSsrc = 6,
     /// The payload is not 4 bytes, and not packed.
     NotOneReport = 7,
-    /// The code is above 15.
-    CodeTooHigh = 8,
+    /// The code is not in the set.
+    CodeNotInSet = 8,
     /// The duration is 0.
     NoDuration = 9,
     /// The offset is 2^31 or more.
     OffsetTooLarge = 10,
     /// The table holds 128 segments, and this pair of offset and code is none of them.
     TableFull = 11,
-    /// A number given to open, write or plan is outside its range, or two payload types are equal.
+    /// A number given to open, write or plan is outside its range, a code outside the set, the set
+    /// is empty, or two payload types are equal.
     OutOfRange = 12,
     /// The report or event number is 0 or above the count.
     NoSuchNumber = 13,
-    /// The output has fewer bytes than the packet.
+    /// The output has fewer bytes than the packet or the text.
     OutputTooSmall = 14,
     /// The lent list has fewer records than there are events, or entries than blocks of the event's
     /// type.
@@ -67,6 +70,8 @@ pub enum Refusal {
     HeadersRunOut = 18,
     /// A redundant packet's block lengths come to more than its data.
     BlocksTooLong = 19,
+    /// A text is no list of codes; or an empty set is written or asked its lowest code.
+    NoCodes = 20,
     /// A refusal that this version does not know: the static library is newer than the crate.
     Unknown = 255,
 }
@@ -75,7 +80,7 @@ use Refusal::*;
 
 impl Refusal {
     /// All refusals that this version knows, by number.
-    pub const ALL: [Refusal; 19] = [
+    pub const ALL: [Refusal; 20] = [
         TooShort,
         WrongVersion,
         HeaderPastEnd,
@@ -83,7 +88,7 @@ impl Refusal {
         OtherPayloadType,
         OtherSsrc,
         NotOneReport,
-        CodeTooHigh,
+        CodeNotInSet,
         NoDuration,
         OffsetTooLarge,
         TableFull,
@@ -95,9 +100,10 @@ impl Refusal {
         Packed,
         HeadersRunOut,
         BlocksTooLong,
+        NoCodes,
     ];
 
-    /// The refusal's number, 1 to 19; 255 for [`Unknown`](Refusal::Unknown).
+    /// The refusal's number, 1 to 20; 255 for [`Unknown`](Refusal::Unknown).
     pub fn number(self) -> u8 {
         self as u8
     }
@@ -106,7 +112,7 @@ impl Refusal {
 impl TryFrom<u8> for Refusal {
     type Error = UnknownRefusal;
 
-    /// The refusal with this number, 1 to 19.
+    /// The refusal with this number, 1 to 20.
     fn try_from(number: u8) -> Result<Refusal, UnknownRefusal> {
         let place = usize::from(number).wrapping_sub(1);
         Refusal::ALL.get(place).copied().ok_or(UnknownRefusal(number))
@@ -119,7 +125,7 @@ impl TryFrom<u8> for Refusal {
 /// use twimbor::{Refusal, UnknownRefusal};
 ///
 /// assert_eq!(Refusal::try_from(11), Ok(Refusal::TableFull));
-/// assert_eq!(Refusal::try_from(20), Err(UnknownRefusal(20)));
+/// assert_eq!(Refusal::try_from(21), Err(UnknownRefusal(21)));
 /// ```
 #[derive(Clone, Copy, Debug, PartialEq, Eq, Hash)]
 pub struct UnknownRefusal(pub u8);
@@ -142,23 +148,26 @@ impl fmt::Display for Refusal {
             OtherPayloadType => "the packet's payload type is not the table's",
             OtherSsrc => "the packet's SSRC is not the table's",
             NotOneReport => "the packet's payload is not 4 bytes, one report",
-            CodeTooHigh => "the report's event code is above 15",
+            CodeNotInSet => "the report's event code is not in the set",
             NoDuration => "the report's duration is 0",
             OffsetTooLarge => "the report's timestamp is 2^31 or more after the table's origin",
             TableFull => "the table holds 128 segments, and the report's is none of them",
-            OutOfRange => "a number given is outside its range",
+            OutOfRange => {
+                "a number given is outside its range, a code outside the set, or the set is empty"
+            }
             NoSuchNumber => "the report or event number is 0 or above the count",
-            OutputTooSmall => "the output has fewer bytes than the packet",
+            OutputTooSmall => "the output has fewer bytes than the packet or the text",
             ListTooSmall => {
                 "the lent list has fewer records than there are events, or entries than blocks"
             }
             InvalidTable => {
-                "the table has more than 128 segments, segments out of order, or a number \
-                 outside its range"
+                "the table has over 128 segments, segments out of order, or a number outside its \
+                 range or the set"
             }
             Packed => "the packet's payload is several reports packed together",
             HeadersRunOut => "the redundant packet's block headers run past its end",
             BlocksTooLong => "the redundant packet's block lengths come to more than its data",
+            NoCodes => "the text is no list of event codes, or the set has none",
             Unknown => "a refusal that this version does not know",
         })
     }
@@ -179,8 +188,8 @@ pub(crate) fn unless_refused<T>(number: impl Into<u64>, value: T) -> Result<T, R
 #[test]
 fn an_unknown_number_is_refused() {
     assert_eq!(unless_refused(0u8, ()), Ok(()));
-    assert_eq!(unless_refused(19u8, ()), Err(BlocksTooLong));
-    for number in [20, 255, 256, 257, u64::MAX] {
+    assert_eq!(unless_refused(20u8, ()), Err(NoCodes));
+    for number in [21, 255, 256, 257, u64::MAX] {
         assert_eq!(unless_refused(number, ()), Err(Unknown));
     }
 }

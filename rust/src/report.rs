@@ -1,7 +1,7 @@
 use core::array;
 
 use crate::refusal::{Refusal, unless_refused};
-use crate::sys;
+use crate::{Codes, sys};
 
 /// How many bytes are written of a report.
 pub const PACKET_BYTES: usize = 16;
@@ -15,7 +15,7 @@ pub const REDUNDANT_BYTES: usize = 33;
 /// One report on the wire.
 ///
 /// ```
-/// use twimbor::{PACKET_BYTES, Refusal, Report};
+/// use twimbor::{Codes, PACKET_BYTES, Refusal, Report};
 ///
 /// let report = Report {
 ///     marker: true,
@@ -29,9 +29,10 @@ pub const REDUNDANT_BYTES: usize = 33;
 ///     duration: 400,
 /// };
 /// let mut packet = [0; PACKET_BYTES];
-/// report.write(&mut packet)?;
-/// assert_eq!(Report::read(&packet), Ok(report));
-/// assert_eq!(Report::read(&packet[..15]), Err(Refusal::NotOneReport));
+/// report.write(Codes::KEYS, &mut packet)?;
+/// assert_eq!(Report::read(Codes::KEYS, &packet), Ok(report));
+/// assert_eq!(Report::read(Codes::KEYS, &packet[..15]), Err(Refusal::NotOneReport));
+/// assert_eq!(Report::read("66,70".parse()?, &packet), Err(Refusal::CodeNotInSet));
 /// # Ok::<(), Refusal>(())
 /// ```
 #[repr(C)]
@@ -47,7 +48,7 @@ pub struct Report {
     pub timestamp: u32,
     /// The source.
     pub ssrc: u32,
-    /// The key, 0 to 15.
+    /// The key, one of the set's codes.
     pub code: u32,
     /// E: the event has ended.
     pub ended: bool,
@@ -58,16 +59,16 @@ pub struct Report {
 }
 
 impl Report {
-    /// The report that a packet carries. Refusals: 1, 2, 3, 4, 17 or 7, 8, 9.
-    pub fn read(packet: &[u8]) -> Result<Report, Refusal> {
-        let result = sys::read(packet);
+    /// The report that a packet carries, of a code in the set. Refusals: 1, 2, 3, 4, 17 or 7, 8, 9.
+    pub fn read(codes: Codes, packet: &[u8]) -> Result<Report, Refusal> {
+        let result = sys::read(codes, packet);
         unless_refused(result.refusal, result.report)
     }
 
     /// Writes the report's 16 bytes at the start of the output; the bytes after them stay.
     /// Refusals: 12, 14; then all bytes stay.
-    pub fn write(&self, output: &mut [u8]) -> Result<(), Refusal> {
-        unless_refused(sys::write(*self, output), ())
+    pub fn write(&self, codes: Codes, output: &mut [u8]) -> Result<(), Refusal> {
+        unless_refused(sys::write(codes, *self, output), ())
     }
 
     /// Writes a redundant packet (RFC 2198) at the start of the output, and answers how many bytes
@@ -80,21 +81,23 @@ impl Report {
     /// bytes stay.
     ///
     /// ```
-    /// use twimbor::{Blocks, OlderReport, REDUNDANT_BYTES, Refusal, Report};
+    /// use twimbor::{Blocks, Codes, OlderReport, REDUNDANT_BYTES, Refusal, Report};
     ///
     /// let report = Report { timestamp: 1000, duration: 160, ..Report::default() };
     /// let older = OlderReport { timestamp: 200, code: 5, ..OlderReport::from(report) };
     /// let mut packet = [0; REDUNDANT_BYTES];
-    /// assert_eq!(report.write_redundant(96, &[older], &mut packet), Ok(25));
+    /// assert_eq!(report.write_redundant(Codes::KEYS, 96, &[older], &mut packet), Ok(25));
     /// let blocks = Blocks::of(&packet[..25])?.map(|block| (block.offset, block.data));
     /// assert!(blocks.eq([(800, &[5, 0, 0, 160][..]), (0, &[0, 0, 0, 160])]));
     ///
     /// let too_old = OlderReport { timestamp: 1000_u32.wrapping_sub(16_384), ..older };
-    /// assert_eq!(report.write_redundant(96, &[too_old], &mut packet), Err(Refusal::OutOfRange));
+    /// let refused = report.write_redundant(Codes::KEYS, 96, &[too_old], &mut packet);
+    /// assert_eq!(refused, Err(Refusal::OutOfRange));
     /// # Ok::<(), Refusal>(())
     /// ```
     pub fn write_redundant(
         &self,
+        codes: Codes,
         redundant_type: impl TryInto<u32>,
         older: &[OlderReport],
         output: &mut [u8],
@@ -102,7 +105,7 @@ impl Report {
         let redundant_type = redundant_type.try_into().map_err(|_| Refusal::OutOfRange)?;
         let count = u32::try_from(older.len()).unwrap_or(u32::MAX);
         let counted = array::from_fn(|i| older.get(i).copied().unwrap_or_default());
-        let refusal = sys::write_redundant(*self, redundant_type, count, counted, output);
+        let refusal = sys::write_redundant(codes, *self, redundant_type, count, counted, output);
         unless_refused(refusal, REDUNDANT_BYTES - 8 * OLDER_REPORTS + 8 * older.len())
     }
 }
@@ -123,7 +126,7 @@ impl Report {
 pub struct OlderReport {
     /// The start of the report's segment, at most 16,383 before the primary's, modulo 2^32.
     pub timestamp: u32,
-    /// The key, 0 to 15.
+    /// The key, one of the set's codes.
     pub code: u32,
     /// E: the event has ended.
     pub ended: bool,

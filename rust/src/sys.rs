@@ -5,7 +5,37 @@
 //! changes, and the values answered are zeros, but for the count of [`Received`], [`Captured`] and
 //! [`BlocksReceived`], and the probes under 11.
 
-use crate::{Entry, Event, Head, OlderReport, PLACES, Plan, Report, Table};
+use crate::{Codes, Entry, Event, Head, OlderReport, PLACES, Plan, Report, Table};
+
+/// What [`read_codes`] answers.
+#[repr(C)]
+#[derive(Clone, Copy, Debug, PartialEq, Eq)]
+pub struct CodesResult {
+    /// The set.
+    pub codes: Codes,
+    /// The refusal's number, 20, or 0.
+    pub refusal: u8,
+}
+
+/// What [`write_codes`] answers.
+#[repr(C)]
+#[derive(Clone, Copy, Debug, PartialEq, Eq)]
+pub struct TextResult {
+    /// How many bytes were written.
+    pub bytes: usize,
+    /// The refusal's number, or 0.
+    pub refusal: u8,
+}
+
+/// What [`codes_lowest`] answers.
+#[repr(C)]
+#[derive(Clone, Copy, Debug, PartialEq, Eq)]
+pub struct LowestResult {
+    /// The lowest code.
+    pub code: u32,
+    /// The refusal's number, 20, or 0.
+    pub refusal: u8,
+}
 
 /// What [`read`] answers.
 #[repr(C)]
@@ -150,9 +180,15 @@ type Heard = [u32; PLACES];
 // tests compare the structs' places with the header's and the calls' answers with documents 01 and
 // 02.
 unsafe extern "C" {
-    fn twimbor_read(packet: *const u8, bytes: usize) -> ReadResult;
-    fn twimbor_write(report: Report, output: *mut u8, bytes: usize) -> u8;
+    fn twimbor_read_codes(text: *const u8, bytes: usize) -> CodesResult;
+    fn twimbor_write_codes(codes: Codes, output: *mut u8, bytes: usize) -> TextResult;
+    safe fn twimbor_codes_contain(codes: Codes, code: u32) -> bool;
+    safe fn twimbor_codes_count(codes: Codes) -> u32;
+    safe fn twimbor_codes_lowest(codes: Codes) -> LowestResult;
+    fn twimbor_read(codes: Codes, packet: *const u8, bytes: usize) -> ReadResult;
+    fn twimbor_write(codes: Codes, report: Report, output: *mut u8, bytes: usize) -> u8;
     fn twimbor_write_redundant(
+        codes: Codes,
         report: Report,
         redundant_type: u32,
         count: u32,
@@ -163,10 +199,11 @@ unsafe extern "C" {
     ) -> u8;
     fn twimbor_walk_start(packet: *const u8, bytes: usize) -> WalkStarted;
     fn twimbor_block_step(packet: *const u8, bytes: usize, cursor: Cursor) -> BlockStepResult;
-    safe fn twimbor_report_count(plan: Plan) -> CountResult;
-    fn twimbor_write_report(plan: Plan, k: u32, output: *mut u8, bytes: usize) -> u8;
-    safe fn twimbor_open_table(payload_type: u32, ssrc: u32, origin: u32) -> Opened;
+    safe fn twimbor_report_count(codes: Codes, plan: Plan) -> CountResult;
+    fn twimbor_write_report(codes: Codes, plan: Plan, k: u32, output: *mut u8, bytes: usize) -> u8;
+    safe fn twimbor_open_table(codes: Codes, payload_type: u32, ssrc: u32, origin: u32) -> Opened;
     safe fn twimbor_open_redundant_table(
+        codes: Codes,
         payload_type: u32,
         redundant_type: u32,
         ssrc: u32,
@@ -210,19 +247,45 @@ unsafe extern "C" {
 // A slice is never null, not even an empty one, points to as many elements as it says, and a lent
 // one is written by nobody else: that is all that the header asks of a pointer with its number.
 
+/// Reads the text of a set of codes.
+pub fn read_codes(text: &[u8]) -> CodesResult {
+    unsafe { twimbor_read_codes(text.as_ptr(), text.len()) }
+}
+
+/// Writes a set's text at the start of the output.
+pub fn write_codes(codes: Codes, output: &mut [u8]) -> TextResult {
+    unsafe { twimbor_write_codes(codes, output.as_mut_ptr(), output.len()) }
+}
+
+/// Whether a code is in the set.
+pub fn codes_contain(codes: Codes, code: u32) -> bool {
+    twimbor_codes_contain(codes, code)
+}
+
+/// How many codes the set has.
+pub fn codes_count(codes: Codes) -> u32 {
+    twimbor_codes_count(codes)
+}
+
+/// The lowest code of the set.
+pub fn codes_lowest(codes: Codes) -> LowestResult {
+    twimbor_codes_lowest(codes)
+}
+
 /// Reads a packet.
-pub fn read(packet: &[u8]) -> ReadResult {
-    unsafe { twimbor_read(packet.as_ptr(), packet.len()) }
+pub fn read(codes: Codes, packet: &[u8]) -> ReadResult {
+    unsafe { twimbor_read(codes, packet.as_ptr(), packet.len()) }
 }
 
 /// Writes a report's 16 bytes at the start of the output, and answers the refusal's number.
-pub fn write(report: Report, output: &mut [u8]) -> u8 {
-    unsafe { twimbor_write(report, output.as_mut_ptr(), output.len()) }
+pub fn write(codes: Codes, report: Report, output: &mut [u8]) -> u8 {
+    unsafe { twimbor_write(codes, report, output.as_mut_ptr(), output.len()) }
 }
 
 /// Writes a redundant packet at the start of the output, and answers the refusal's number. So many
 /// older reports count, in their order.
 pub fn write_redundant(
+    codes: Codes,
     report: Report,
     redundant_type: u32,
     count: u32,
@@ -230,7 +293,9 @@ pub fn write_redundant(
     output: &mut [u8],
 ) -> u8 {
     let (start, bytes) = (output.as_mut_ptr(), output.len());
-    unsafe { twimbor_write_redundant(report, redundant_type, count, first, second, start, bytes) }
+    unsafe {
+        twimbor_write_redundant(codes, report, redundant_type, count, first, second, start, bytes)
+    }
 }
 
 /// Starts a walk over the blocks of a redundant packet.
@@ -244,28 +309,29 @@ pub fn block_step(packet: &[u8], cursor: Cursor) -> BlockStepResult {
 }
 
 /// How many reports a plan has.
-pub fn report_count(plan: Plan) -> CountResult {
-    twimbor_report_count(plan)
+pub fn report_count(codes: Codes, plan: Plan) -> CountResult {
+    twimbor_report_count(codes, plan)
 }
 
 /// Writes report k of a plan at the start of the output, and answers the refusal's number.
-pub fn write_report(plan: Plan, k: u32, output: &mut [u8]) -> u8 {
-    unsafe { twimbor_write_report(plan, k, output.as_mut_ptr(), output.len()) }
+pub fn write_report(codes: Codes, plan: Plan, k: u32, output: &mut [u8]) -> u8 {
+    unsafe { twimbor_write_report(codes, plan, k, output.as_mut_ptr(), output.len()) }
 }
 
 /// An empty table.
-pub fn open_table(payload_type: u32, ssrc: u32, origin: u32) -> Opened {
-    twimbor_open_table(payload_type, ssrc, origin)
+pub fn open_table(codes: Codes, payload_type: u32, ssrc: u32, origin: u32) -> Opened {
+    twimbor_open_table(codes, payload_type, ssrc, origin)
 }
 
 /// An empty table for packets of the event's payload type and for redundant ones.
 pub fn open_redundant_table(
+    codes: Codes,
     payload_type: u32,
     redundant_type: u32,
     ssrc: u32,
     origin: u32,
 ) -> Opened {
-    twimbor_open_redundant_table(payload_type, redundant_type, ssrc, origin)
+    twimbor_open_redundant_table(codes, payload_type, redundant_type, ssrc, origin)
 }
 
 /// Whether a table passes the tests of refusal 16.

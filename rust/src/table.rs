@@ -2,7 +2,7 @@
 use alloc::{vec, vec::Vec};
 
 use crate::refusal::{Refusal, unless_refused};
-use crate::{Event, sys};
+use crate::{Codes, Event, sys};
 
 /// How many segments a table holds at most, and so how many events it can list.
 pub const PLACES: usize = 128;
@@ -12,7 +12,7 @@ pub const PLACES: usize = 128;
 pub struct Segment {
     /// (timestamp - origin) modulo 2^32, below 2^31.
     pub offset: u32,
-    /// The key, 0 to 15.
+    /// The key, one of the table's set.
     pub code: u8,
     /// The largest heard, in timestamp units; at least 1.
     pub duration: u16,
@@ -61,6 +61,8 @@ pub struct Head {
     pub ssrc: u32,
     /// The timestamp that offsets are counted from.
     pub origin: u32,
+    /// The codes that are taken.
+    pub codes: Codes,
     /// How many segments are held, at most 128.
     pub count: usize,
 }
@@ -72,13 +74,13 @@ pub struct Head {
 /// [`Table::open_redundant`] makes one for redundant packets too.
 ///
 /// ```
-/// use twimbor::{Refusal, Segment, Table};
+/// use twimbor::{Codes, Refusal, Segment, Table};
 ///
 /// let key = Segment { offset: 1000, code: 5, duration: 400, ..Segment::default() };
-/// let table = Table::from_segments(101, 0x1122_3344, 0, &[key])?;
+/// let table = Table::from_segments(Codes::KEYS, 101, 0x1122_3344, 0, &[key])?;
 /// assert!(table.segments().eq([key]));
 /// let other = Segment { code: 16, ..key };
-/// let refused = Table::from_segments(101, 0x1122_3344, 0, &[other]);
+/// let refused = Table::from_segments(Codes::KEYS, 101, 0x1122_3344, 0, &[other]);
 /// assert_eq!(refused, Err(Refusal::InvalidTable));
 /// # Ok::<(), Refusal>(())
 /// ```
@@ -162,38 +164,48 @@ pub struct Captured {
 }
 
 impl Table {
-    /// An empty table for one payload type and SSRC. Refusal: 12.
+    /// An empty table for one payload type and SSRC, and for the codes of a set. Refusal: 12, also
+    /// if the set is empty.
     ///
     /// The payload type is a number of any type: a report's, a plan's and a head's go in as they are.
     ///
     /// ```
-    /// use twimbor::{Refusal, Report, Table};
+    /// use twimbor::{Codes, Refusal, Report, Table};
     ///
     /// let report = Report { payload_type: 101, ..Report::default() };
-    /// let table = Table::open(report.payload_type, report.ssrc, report.timestamp)?;
-    /// let next = Table::open(table.head.payload_type, table.head.ssrc, 48_000)?;
+    /// let table = Table::open(Codes::KEYS, report.payload_type, report.ssrc, report.timestamp)?;
+    /// let next = Table::open(table.codes(), table.head.payload_type, table.head.ssrc, 48_000)?;
     /// assert_eq!(next.head.payload_type, 101);
-    /// assert_eq!(Table::open(128, 7, 0), Err(Refusal::OutOfRange));
+    /// assert_eq!(Table::open(Codes::KEYS, 128, 7, 0), Err(Refusal::OutOfRange));
+    /// assert_eq!(Table::open(Codes::EMPTY, 101, 7, 0), Err(Refusal::OutOfRange));
     /// # Ok::<(), Refusal>(())
     /// ```
-    pub fn open(payload_type: impl TryInto<u32>, ssrc: u32, origin: u32) -> Result<Table, Refusal> {
+    pub fn open(
+        codes: Codes,
+        payload_type: impl TryInto<u32>,
+        ssrc: u32,
+        origin: u32,
+    ) -> Result<Table, Refusal> {
         let payload_type = payload_type.try_into().map_err(|_| Refusal::OutOfRange)?;
-        let opened = sys::open_table(payload_type, ssrc, origin);
+        let opened = sys::open_table(codes, payload_type, ssrc, origin);
         unless_refused(opened.refusal, opened.table)
     }
 
     /// An empty table for the packets of one SSRC that are of the event's payload type or
-    /// redundant. Refusal: 12, also if the two types are equal. They are numbers of any type.
+    /// redundant. Refusal: 12, also if the set is empty or the two types are equal. They are numbers
+    /// of any type.
     ///
     /// ```
-    /// use twimbor::{Refusal, Table};
+    /// use twimbor::{Codes, Refusal, Table};
     ///
-    /// let table = Table::open_redundant(101, 96, 0x1122_3344, 5000)?;
+    /// let table = Table::open_redundant(Codes::KEYS, 101, 96, 0x1122_3344, 5000)?;
     /// assert_eq!((table.head.payload_type, table.head.redundant_type), (101, 96));
-    /// assert_eq!(Table::open_redundant(101, 101, 0x1122_3344, 5000), Err(Refusal::OutOfRange));
+    /// let equal = Table::open_redundant(Codes::KEYS, 101, 101, 0x1122_3344, 5000);
+    /// assert_eq!(equal, Err(Refusal::OutOfRange));
     /// # Ok::<(), Refusal>(())
     /// ```
     pub fn open_redundant(
+        codes: Codes,
         payload_type: impl TryInto<u32>,
         redundant_type: impl TryInto<u32>,
         ssrc: u32,
@@ -201,25 +213,31 @@ impl Table {
     ) -> Result<Table, Refusal> {
         let payload_type = payload_type.try_into().map_err(|_| Refusal::OutOfRange)?;
         let redundant_type = redundant_type.try_into().map_err(|_| Refusal::OutOfRange)?;
-        let opened = sys::open_redundant_table(payload_type, redundant_type, ssrc, origin);
+        let opened = sys::open_redundant_table(codes, payload_type, redundant_type, ssrc, origin);
         unless_refused(opened.refusal, opened.table)
     }
 
     /// A table for one payload type that holds these segments; for both, the head's two fields are
     /// set afterwards. Refusals: 12; 16 if it fails the tests of [`Table::is_valid`].
     pub fn from_segments(
+        codes: Codes,
         payload_type: impl TryInto<u32>,
         ssrc: u32,
         origin: u32,
         segments: &[Segment],
     ) -> Result<Table, Refusal> {
-        let mut table = Table::open(payload_type, ssrc, origin)?;
+        let mut table = Table::open(codes, payload_type, ssrc, origin)?;
         table.head.count = segments.len();
         for (place, segment) in segments.iter().take(PLACES).enumerate() {
             table.keys[place] = segment.key();
             table.heard[place] = segment.heard();
         }
         if table.is_valid() { Ok(table) } else { Err(Refusal::InvalidTable) }
+    }
+
+    /// The codes that the table takes.
+    pub fn codes(&self) -> Codes {
+        self.head.codes
     }
 
     /// The segments held, by offset, then code. In a table that fails the tests, an offset or a
@@ -231,9 +249,9 @@ impl Table {
     }
 
     /// Whether the table passes the tests of refusal 16: at most 128 segments, strictly rising by
-    /// offset, then code; offsets below 2^31, codes 0 to 15, durations at least 1, volumes 0 to 63;
-    /// payload type up to 127; in a table opened for both types the other one up to 127 too, and
-    /// another.
+    /// offset, then code; offsets below 2^31, codes of the table's set, which may be empty if nothing
+    /// is held, durations at least 1, volumes 0 to 63; payload type up to 127; in a table opened for
+    /// both types the other one up to 127 too, and another.
     pub fn is_valid(&self) -> bool {
         sys::is_valid_columns(self.head, &self.keys, &self.heard)
     }
@@ -262,13 +280,13 @@ impl Table {
     /// the next piece; fewer than 65,537 bytes are ever left.
     ///
     /// ```
-    /// use twimbor::{Refusal, Report, Table};
+    /// use twimbor::{Codes, Refusal, Report, Table};
     ///
-    /// let mut table = Table::open(101, 7, 0)?;
+    /// let mut table = Table::open(Codes::KEYS, 101, 7, 0)?;
     /// let key = Report { payload_type: 101, ssrc: 7, code: 5, duration: 400, ..Report::default() };
     /// let mut frames = [0; 27]; // one frame of 2 + 16 bytes, and half of another
     /// frames[1] = 16;
-    /// key.write(&mut frames[2..18])?;
+    /// key.write(Codes::KEYS, &mut frames[2..18])?;
     /// frames.copy_within(..9, 18);
     /// let captured = table.receive_capture(&frames)?;
     /// assert_eq!((captured.taken, captured.refused, captured.used), (1, 0, 18));
@@ -295,14 +313,15 @@ impl Table {
     /// as many entries as the packet has bytes are always enough.
     ///
     /// ```
-    /// use twimbor::{Entry, OlderReport, REDUNDANT_BYTES, Refusal, Report, Table, Taken};
+    /// use twimbor::{Codes, Entry, OlderReport, REDUNDANT_BYTES, Refusal, Report, Table, Taken};
     ///
     /// let key = Report { payload_type: 101, ssrc: 7, code: 5, duration: 400, ..Report::default() };
     /// let next = Report { timestamp: 1000, code: 6, ..key };
     /// let mut packet = [0; REDUNDANT_BYTES];
-    /// let bytes = next.write_redundant(96, &[OlderReport::from(key)], &mut packet)?;
+    /// let (codes, older) = (Codes::KEYS, OlderReport::from(key));
+    /// let bytes = next.write_redundant(codes, 96, &[older], &mut packet)?;
     ///
-    /// let mut table = Table::open_redundant(101, 96, 7, 0)?;
+    /// let mut table = Table::open_redundant(codes, 101, 96, 7, 0)?;
     /// let mut entries = [Entry::default(); 4];
     /// assert_eq!(table.receive_redundant(&packet[..bytes], &mut entries), Ok(2));
     /// assert_eq!([entries[0].answer(), entries[1].answer()], [Ok(Taken::New); 2]);

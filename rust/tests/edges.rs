@@ -1,9 +1,11 @@
 //! The rows of document 01, "Both sides of each edge", those of packed packets, of segments of any
-//! size, of whole captures and of redundant packets, and the words of the refusals.
+//! size, of whole captures, of redundant packets and of sets of codes, and the words of the refusals.
 
 use std::collections::HashSet;
-use twimbor::{Block, Blocks, Captured, Entry, Event, OlderReport, Plan, Refusal, Report};
+use twimbor::{Block, Blocks, Captured, Codes, Entry, Event, OlderReport, Plan, Refusal, Report};
 use twimbor::{Segment, Table, Taken, UnknownRefusal};
+
+const KEYS: Codes = Codes::KEYS;
 
 const P7: Plan = Plan {
     payload_type: 101,
@@ -19,7 +21,7 @@ const P7: Plan = Plan {
 
 /// The events of a table that holds these two segments.
 fn events(first: Segment, second: Segment) -> Vec<Event> {
-    Table::from_segments(101, 1, 0, &[first, second]).unwrap().events().unwrap()
+    Table::from_segments(KEYS, 101, 1, 0, &[first, second]).unwrap().events().unwrap()
 }
 
 #[test]
@@ -32,13 +34,14 @@ fn p1_to_p6_count_reports() {
         (65_536, 65_535, 6),
         (70_000, 2_400, 34),
     ] {
-        assert_eq!(Plan { length, period, ..P7 }.report_count(), Ok(reports));
+        assert_eq!(Plan { length, period, ..P7 }.report_count(KEYS), Ok(reports));
     }
 }
 
 #[test]
 fn p7_and_p8_give_these_bytes() {
-    let packets: Vec<_> = P7.packets().unwrap().map(|packet| format!("{packet:02X?}")).collect();
+    let packets: Vec<_> =
+        P7.packets(KEYS).unwrap().map(|packet| format!("{packet:02X?}")).collect();
     assert_eq!(
         packets,
         [
@@ -100,7 +103,7 @@ fn segment_sizes_end_at_1_and_65535() {
     for segment_size in [0, 1, 65_535, 65_536, u32::MAX] {
         let plan = Plan { length: 1, segment_size, ..P7 };
         let is_size = (1..=65_535).contains(&segment_size);
-        let (count, written) = (plan.report_count(), plan.write_report(1, &mut [0; 16]));
+        let (count, written) = (plan.report_count(KEYS), plan.write_report(KEYS, 1, &mut [0; 16]));
         assert_eq!(count, if is_size { Ok(3) } else { Err(Refusal::OutOfRange) });
         assert_eq!(written, if is_size { Ok(()) } else { Err(Refusal::OutOfRange) });
     }
@@ -110,19 +113,19 @@ fn segment_sizes_end_at_1_and_65535() {
 fn lengths_end_at_16_sizes() {
     for segment_size in [1, 2, 399, 400, 15_983, 65_534, 65_535] {
         let longest = Plan { length: 16 * segment_size, period: 65_535, segment_size, ..P7 };
-        assert_eq!(longest.report_count(), Ok(3 * 16));
-        assert_eq!(longest.write_report(3 * 16, &mut [0; 16]), Ok(()));
+        assert_eq!(longest.report_count(KEYS), Ok(3 * 16));
+        assert_eq!(longest.write_report(KEYS, 3 * 16, &mut [0; 16]), Ok(()));
         for length in [0, longest.length + 1] {
             let outside = Plan { length, ..longest };
-            assert_eq!(outside.report_count(), Err(Refusal::OutOfRange));
-            assert_eq!(outside.write_report(1, &mut [0; 16]), Err(Refusal::OutOfRange));
+            assert_eq!(outside.report_count(KEYS), Err(Refusal::OutOfRange));
+            assert_eq!(outside.write_report(KEYS, 1, &mut [0; 16]), Err(Refusal::OutOfRange));
         }
     }
 }
 
 /// A plan's reports, as start of the segment, counted from that of the event, duration and E.
 fn reports(plan: &Plan) -> Vec<(u32, u32, bool)> {
-    let reports = plan.packets().unwrap().map(|packet| Report::read(&packet).unwrap());
+    let reports = plan.packets(KEYS).unwrap().map(|packet| Report::read(KEYS, &packet).unwrap());
     reports.map(|r| (r.timestamp.wrapping_sub(plan.start), r.duration, r.ended)).collect()
 }
 
@@ -152,34 +155,34 @@ fn a_length_in_whole_sizes_leaves_no_empty_segment() {
 #[test]
 fn offsets_end_at_two_to_the_31() {
     let origin = 0xFFFF_FFF0;
-    let mut table = Table::open(P7.payload_type, P7.ssrc, origin).unwrap();
+    let mut table = Table::open(KEYS, P7.payload_type, P7.ssrc, origin).unwrap();
     let mut packet = [0; 16];
     let last = Plan { start: origin.wrapping_add((1 << 31) - 1), ..P7 };
-    last.write_report(1, &mut packet).unwrap();
+    last.write_report(KEYS, 1, &mut packet).unwrap();
     assert_eq!(table.receive(&packet), Ok(Taken::New));
     let after = Plan { start: origin.wrapping_add(1 << 31), ..P7 };
-    after.write_report(1, &mut packet).unwrap();
+    after.write_report(KEYS, 1, &mut packet).unwrap();
     assert_eq!(table.receive(&packet), Err(Refusal::OffsetTooLarge));
 }
 
 #[test]
 fn a_full_table_takes_what_it_knows() {
-    let mut table = Table::open(P7.payload_type, P7.ssrc, 0).unwrap();
+    let mut table = Table::open(KEYS, P7.payload_type, P7.ssrc, 0).unwrap();
     let mut packet = [0; 16];
     for start in 0..129 {
-        Plan { start, ..P7 }.write_report(1, &mut packet).unwrap();
+        Plan { start, ..P7 }.write_report(KEYS, 1, &mut packet).unwrap();
         let expected = if start < 128 { Ok(Taken::New) } else { Err(Refusal::TableFull) };
         assert_eq!(table.receive(&packet), expected);
     }
-    Plan { start: 77, ..P7 }.write_report(2, &mut packet).unwrap();
+    Plan { start: 77, ..P7 }.write_report(KEYS, 2, &mut packet).unwrap();
     assert_eq!(table.receive(&packet), Ok(Taken::Known));
     assert_eq!(table.segments().len(), 128);
 }
 
 #[test]
 fn packed_packets_hold_two_or_more_whole_reports() {
-    let mut table = Table::open(P7.payload_type, P7.ssrc, P7.start).unwrap();
-    let report = P7.packets().unwrap().next().unwrap();
+    let mut table = Table::open(KEYS, P7.payload_type, P7.ssrc, P7.start).unwrap();
+    let report = P7.packets(KEYS).unwrap().next().unwrap();
     for bytes in 0..=13 {
         let payload = report[12..].iter().cycle().take(bytes);
         let packet: Vec<u8> = report[..12].iter().chain(payload).copied().collect();
@@ -188,14 +191,14 @@ fn packed_packets_hold_two_or_more_whole_reports() {
             8 | 12 => Err(17),
             _ => Err(7),
         };
-        assert_eq!(Report::read(&packet).map(|_| ()).map_err(Refusal::number), expected);
+        assert_eq!(Report::read(KEYS, &packet).map(|_| ()).map_err(Refusal::number), expected);
         assert_eq!(table.receive(&packet).map(|_| ()).map_err(Refusal::number), expected);
     }
 }
 
 /// The three reports of P7, each in a frame.
 fn p7_frames() -> [Vec<u8>; 3] {
-    let frames: Vec<_> = P7.packets().unwrap().map(|packet| framed(&packet)).collect();
+    let frames: Vec<_> = P7.packets(KEYS).unwrap().map(|packet| framed(&packet)).collect();
     frames.try_into().unwrap()
 }
 
@@ -205,7 +208,7 @@ fn framed(packet: &[u8]) -> Vec<u8> {
 
 /// What P7's table says of a capture: the bytes used, and how many are taken, refused, packed.
 fn captured(capture: &[u8]) -> (usize, usize, usize, usize) {
-    let mut table = Table::open(P7.payload_type, P7.ssrc, P7.start).unwrap();
+    let mut table = Table::open(KEYS, P7.payload_type, P7.ssrc, P7.start).unwrap();
     let Captured { used, taken, refused, packed } = table.receive_capture(capture).unwrap();
     assert_eq!(table.segments().len(), taken.min(1));
     (used, taken, refused, packed)
@@ -246,8 +249,8 @@ fn refused_packets_stop_no_later_one() {
 
 #[test]
 fn what_a_full_table_refuses_is_counted() {
-    let mut table = Table::open(P7.payload_type, P7.ssrc, 0).unwrap();
-    let first = |start| framed(&Plan { start, ..P7 }.packets().unwrap().next().unwrap());
+    let mut table = Table::open(KEYS, P7.payload_type, P7.ssrc, 0).unwrap();
+    let first = |start| framed(&Plan { start, ..P7 }.packets(KEYS).unwrap().next().unwrap());
     let capture: Vec<u8> = (0..130).chain([77]).flat_map(first).collect();
     let captured = Captured { used: 131 * 18, taken: 129, refused: 2, packed: 0 };
     assert_eq!(table.receive_capture(&capture), Ok(captured));
@@ -257,7 +260,7 @@ fn what_a_full_table_refuses_is_counted() {
 #[test]
 fn a_table_that_fails_the_tests_receives_no_capture() {
     let [one, ..] = p7_frames();
-    let opened = Table::open(P7.payload_type, P7.ssrc, P7.start).unwrap();
+    let opened = Table::open(KEYS, P7.payload_type, P7.ssrc, P7.start).unwrap();
     let mut too_many = opened.clone();
     too_many.head.count = 129;
     let mut no_duration = opened.clone();
@@ -275,7 +278,7 @@ fn a_table_that_fails_the_tests_receives_no_capture() {
 fn a_capture_goes_on_from_the_bytes_used() {
     let all = [&p7_frames().concat()[..], &[0, 0]].concat();
     for cut in 0..=all.len() {
-        let mut table = Table::open(P7.payload_type, P7.ssrc, P7.start).unwrap();
+        let mut table = Table::open(KEYS, P7.payload_type, P7.ssrc, P7.start).unwrap();
         let before = table.receive_capture(&all[..cut]).unwrap();
         let after = table.receive_capture(&all[before.used..]).unwrap();
         assert_eq!(before.used + after.used, all.len());
@@ -293,7 +296,7 @@ fn redundant(payload: &[u8]) -> Vec<u8> {
 
 /// P7's table, opened for both types.
 fn p7_table() -> Table {
-    Table::open_redundant(P7.payload_type, 96, P7.ssrc, P7.start).unwrap()
+    Table::open_redundant(KEYS, P7.payload_type, 96, P7.ssrc, P7.start).unwrap()
 }
 
 /// The lengths of a packet's blocks, or the refusal's number; the receiver agrees about that.
@@ -357,7 +360,7 @@ fn offsets_of_blocks_end_at_16383() {
         // On both sides of the origin.
         for (before, answer) in [(0, Ok(Taken::New)), (1, Err(Refusal::OffsetTooLarge))] {
             let origin = block.timestamp(0x20).wrapping_add(before);
-            let mut table = Table::open_redundant(101, 96, P7.ssrc, origin).unwrap();
+            let mut table = Table::open_redundant(KEYS, 101, 96, P7.ssrc, origin).unwrap();
             let mut entries = [Entry::default(); 2];
             assert_eq!(table.receive_redundant(&packet, &mut entries), Ok(2));
             assert_eq!(entries[0].answer(), answer);
@@ -367,7 +370,7 @@ fn offsets_of_blocks_end_at_16383() {
 
 #[test]
 fn a_packet_needs_an_entry_for_each_block_of_the_events_type() {
-    let plain = P7.packets().unwrap().next().unwrap();
+    let plain = P7.packets(KEYS).unwrap().next().unwrap();
     let three = [0xE5, 0, 0, 4, 0xE0, 0, 0, 0, 0x65, 5, 10, 1, 144, 6, 10, 1, 144];
     let other_types = [0xE0, 0, 0, 1, 0x07, 1, 2, 3];
     let stays = Entry::from(0xABCD);
@@ -419,7 +422,7 @@ fn a_redundant_packet_is_refused_in_this_order() {
         // 01's receiver knows the event's type alone.
         assert_eq!(table.receive(&packet), Err(Refusal::OtherPayloadType));
         // A table of the first opening has it alone, whatever else it says.
-        let mut first = Table::open(P7.payload_type, P7.ssrc, P7.start).unwrap();
+        let mut first = Table::open(KEYS, P7.payload_type, P7.ssrc, P7.start).unwrap();
         for redundant_type in [0, 96, 101, 200] {
             first.head.redundant_type = redundant_type;
             let received = first.receive_redundant(&packet, &mut [Entry::default(); 2]);
@@ -454,7 +457,7 @@ fn a_refused_block_stops_none_and_only_the_primary_is_marked() {
 fn a_full_table_refuses_a_block_and_takes_a_later_one() {
     let segment = |offset| Segment { offset, code: 5, duration: 1, ..Segment::default() };
     let held: Vec<_> = (0..128).map(segment).collect();
-    let mut table = Table::from_segments(101, P7.ssrc, P7.start, &held).unwrap();
+    let mut table = Table::from_segments(KEYS, 101, P7.ssrc, P7.start, &held).unwrap();
     (table.head.both_types, table.head.redundant_type) = (1, 96);
     let packet = redundant(&[0xE5, 0, 0xC0, 4, 0x65, 6, 10, 0, 9, 5, 10, 0, 9]);
     let mut entries = [Entry::default(); 2];
@@ -492,13 +495,13 @@ fn redundant_packets_have_these_bytes() {
     ] {
         let mut output = [0xEE; 40];
         let bytes = 17 + 8 * older.len();
-        assert_eq!(REPORT.write_redundant(96, older, &mut output), Ok(bytes));
+        assert_eq!(REPORT.write_redundant(KEYS, 96, older, &mut output), Ok(bytes));
         let hex: Vec<_> = output[..bytes].iter().map(|byte| format!("{byte:02X}")).collect();
         assert_eq!(hex.join(" "), format!("{header}{rest}"));
         assert!(output[bytes..].iter().all(|&byte| byte == 0xEE));
         // 14 with one byte fewer than that.
         let mut output = [0xEE; 40];
-        let written = REPORT.write_redundant(96, older, &mut output[..bytes - 1]);
+        let written = REPORT.write_redundant(KEYS, 96, older, &mut output[..bytes - 1]);
         assert_eq!((written, output), (Err(Refusal::OutputTooSmall), [0xEE; 40]));
     }
 }
@@ -506,14 +509,14 @@ fn redundant_packets_have_these_bytes() {
 #[test]
 fn redundant_packets_are_written_within_these_ranges() {
     let write = |report: Report, redundant_type: u32, older: &[OlderReport]| {
-        let written = report.write_redundant(redundant_type, older, &mut [0; 33]);
+        let written = report.write_redundant(KEYS, redundant_type, older, &mut [0; 33]);
         written.map_err(Refusal::number)
     };
     assert_eq!(write(REPORT, 127, &OLDER), Ok(33));
     for redundant_type in [101, 128, 101 + 256, u32::MAX] {
         assert_eq!(write(REPORT, redundant_type, &OLDER), Err(12));
     }
-    assert_eq!(REPORT.write_redundant(-1, &OLDER, &mut [0; 33]), Err(Refusal::OutOfRange));
+    assert_eq!(REPORT.write_redundant(KEYS, -1, &OLDER, &mut [0; 33]), Err(Refusal::OutOfRange));
     let third = [OLDER[0], OLDER[1], OLDER[1]];
     assert_eq!(write(REPORT, 96, &third), Err(12));
     let [first, second] = OLDER;
@@ -532,7 +535,7 @@ fn redundant_packets_are_written_within_these_ranges() {
         let OlderReport { code, volume, duration, .. } = wrong;
         assert_eq!(write(Report { code, volume, duration, ..REPORT }, 96, &[]), Err(12));
         // 12 comes before 14.
-        assert_eq!(REPORT.write_redundant(96, &[wrong], &mut []), Err(Refusal::OutOfRange));
+        assert_eq!(REPORT.write_redundant(KEYS, 96, &[wrong], &mut []), Err(Refusal::OutOfRange));
     }
 }
 
@@ -546,7 +549,7 @@ fn a_table_for_both_types_has_two() {
         (101, 101, false),
         (101, 101 + 256, false),
     ] {
-        let opened = Table::open_redundant(payload_type, redundant_type, 7, 0);
+        let opened = Table::open_redundant(KEYS, payload_type, redundant_type, 7, 0);
         assert_eq!(opened.as_ref().err(), (!is_opened).then_some(&Refusal::OutOfRange));
         assert!(
             opened.is_ok_and(|table| table.is_valid() && table.head.both_types == 1) == is_opened
@@ -576,7 +579,7 @@ fn figure_5_has_an_event_before_a_tone() {
     let event = Block { payload_type: 100, offset: 1_600, primary: false, data: &packet[17..21] };
     let tone = Block { payload_type: 101, offset: 0, primary: true, data: &packet[21..29] };
     assert!(Blocks::of(&packet).unwrap().eq([event, tone]));
-    let mut table = Table::open_redundant(100, 102, 0x5234A8, 0).unwrap();
+    let mut table = Table::open_redundant(KEYS, 100, 102, 0x5234A8, 0).unwrap();
     let mut entries = [Entry::default()];
     assert_eq!(table.receive_redundant(&packet, &mut entries), Ok(1));
     assert_eq!(entries[0].answer(), Ok(Taken::New));
@@ -585,7 +588,7 @@ fn figure_5_has_an_event_before_a_tone() {
     assert_eq!(table.events().unwrap(), [event]);
 
     // For a table whose events are of the tones' type, its eight bytes are two reports.
-    let mut table = Table::open_redundant(101, 102, 0x5234A8, 0).unwrap();
+    let mut table = Table::open_redundant(KEYS, 101, 102, 0x5234A8, 0).unwrap();
     assert_eq!(table.receive_redundant(&packet, &mut entries), Ok(1));
     assert_eq!(entries[0].answer(), Err(Refusal::Packed));
 }
@@ -593,17 +596,203 @@ fn figure_5_has_an_event_before_a_tone() {
 #[test]
 fn volume_ends_at_63() {
     let report = Report { volume: 63, duration: 1, ..Report::default() };
-    assert_eq!(report.write(&mut [0; 16]), Ok(()));
+    assert_eq!(report.write(KEYS, &mut [0; 16]), Ok(()));
     let too_large = Report { volume: 64, ..report };
-    assert_eq!(too_large.write(&mut [0; 16]), Err(Refusal::OutOfRange));
+    assert_eq!(too_large.write(KEYS, &mut [0; 16]), Err(Refusal::OutOfRange));
+}
+
+/// The codes of a text, or the refusal's number.
+fn read(text: &str) -> Result<Vec<u8>, u8> {
+    let codes = text.parse::<Codes>().map_err(Refusal::number);
+    assert_eq!(Codes::read(text.as_bytes()).map_err(Refusal::number), codes);
+    codes.map(|codes| codes.iter().collect())
+}
+
+#[test]
+fn lists_of_codes_are_read_within_this_grammar() {
+    let keys = Vec::from_iter(0..=15);
+    assert_eq!(read("0-15,66,70"), Ok([&keys[..], &[66, 70]].concat()));
+    for (text, codes) in [
+        ("0", &[0][..]),
+        ("9", &[9]),
+        ("10", &[10]),
+        ("99,100", &[99, 100]),
+        ("255", &[255]),
+        ("254-255", &[254, 255]),
+        ("5-6", &[5, 6]),
+        ("3,1,2", &[1, 2, 3]),
+        ("7,7,7", &[7]),
+        ("1-3,2-4,3", &[1, 2, 3, 4]),
+        ("63-64,127-128,191-192", &[63, 64, 127, 128, 191, 192]),
+    ] {
+        assert_eq!(read(text).as_deref(), Ok(codes), "{text}");
+    }
+    let no_lists = "|,|-|256|260|300|999|1000|00|01|0-015|5-5|9-3|5-4|1,|,1|1,,2|1-2-3|1-|-1|1--2|\
+        1-256|+1|1-+2| 1|1 |1, 2|1\n|\n|1\0|0x5|1;2|1.5|A|\u{661}|4294967301|18446744073709551621|\
+        99999999999999999999|0-99999999999999999999";
+    for text in no_lists.split('|') {
+        assert_eq!(read(text), Err(20), "{text:?}");
+    }
+    assert_eq!(Codes::read(b"1\xFF"), Err(Refusal::NoCodes));
+}
+
+#[test]
+fn sets_are_written_in_the_longest_ranges() {
+    for (given, text) in [
+        ("3,4", "3-4"),
+        ("3,5", "3,5"),
+        ("2-3,5", "2-3,5"),
+        ("5,4,3,1", "1,3-5"),
+        ("0-63,64-70", "0-70"),
+        ("0-64,65-128,129-192,193", "0-193"),
+        ("0-127,128-255", "0-255"),
+        ("63,64,127,128,191,192", "63-64,127-128,191-192"),
+        ("255,0", "0,255"),
+        ("9-10,99-100", "9-10,99-100"),
+    ] {
+        let codes: Codes = given.parse().unwrap();
+        assert_eq!(codes.to_string(), text);
+        // 14 with one byte fewer than that; what stands behind the text stays.
+        let mut output = [0xEE; 40];
+        let written = codes.write_to(&mut output[..text.len() - 1]);
+        assert_eq!((written, output), (Err(Refusal::OutputTooSmall), [0xEE; 40]));
+        assert_eq!(codes.write_to(&mut output[..text.len()]), Ok(text.len()));
+        assert_eq!(&output[..text.len()], text.as_bytes());
+        assert!(output[text.len()..].iter().all(|&byte| byte == 0xEE));
+    }
+}
+
+#[test]
+fn an_empty_set_has_no_text_and_no_lowest_code() {
+    let mut output = [0xEE; 8];
+    // 20 comes before 14.
+    for bytes in [0, 8] {
+        assert_eq!(Codes::EMPTY.write_to(&mut output[..bytes]), Err(Refusal::NoCodes));
+    }
+    assert_eq!(output, [0xEE; 8]);
+    assert_eq!(Codes::EMPTY.lowest(), Err(Refusal::NoCodes));
+    assert_eq!((Codes::EMPTY.len(), Codes::EMPTY.to_string()), (0, String::new()));
+    assert!(Codes::EMPTY.is_empty() && Codes::default() == Codes::EMPTY);
+    for code in [0, 63, 64, 127, 128, 191, 192, 255] {
+        let one = Codes::from_iter([code]);
+        assert_eq!((one.len(), one.lowest()), (1, Ok(code)));
+        assert!(one.contains(code) && !one.contains(u32::from(code) + 256));
+    }
+}
+
+#[test]
+fn sets_do_what_sets_do() {
+    let codes: Codes = "0-15,66,70".parse().unwrap();
+    let mut set = Codes::EMPTY;
+    assert!(set.insert(70) && !set.insert(70));
+    set.extend((0..=15).chain([66]));
+    assert_eq!(set, codes);
+    assert!(set.remove(3) && !set.remove(3) && !set.contains(3));
+    assert_eq!((set | KEYS, set & KEYS), (codes, "0-2,4-15".parse().unwrap()));
+    assert!((&codes).into_iter().eq(codes) && codes.into_iter().len() == 18);
+    let (mut both_ends, mut taken) = (codes.iter(), Vec::new());
+    while let Some(code) = both_ends.next_back() {
+        taken.extend([Some(code), both_ends.next()].into_iter().flatten());
+    }
+    assert_eq!(taken[..6], [70, 0, 66, 1, 15, 2]);
+    assert_eq!((taken.len(), both_ends.next(), both_ends.len()), (18, None, 0));
+    assert_eq!(format!("{codes:?} {codes:>12}|"), "Codes(0-15,66,70)   0-15,66,70|");
+    assert_eq!(HashSet::from([codes, set, codes]).len(), 2);
+    assert_eq!(<[u64; 4]>::from(codes), [0xFFFF, 0x44, 0, 0]);
+}
+
+/// Both sides of a set's edge, in every call that takes one.
+#[test]
+fn codes_end_where_the_set_does() {
+    let of_66 = Plan { code: 66, ..P7 };
+    let mut packet = [0; 16];
+    of_66.write_report("66".parse().unwrap(), 1, &mut packet).unwrap();
+    let report = Report { code: 66, ..REPORT };
+    for (text, is_in) in [
+        ("66", true),
+        ("0-255", true),
+        ("0-15,66,70", true),
+        ("0-15", false),
+        ("0-65,67-255", false),
+    ] {
+        let codes: Codes = text.parse().unwrap();
+        let (taken, given) = if is_in { (Ok(()), Ok(())) } else { (Err(8), Err(12)) };
+        let said = Report::read(codes, &packet).map(|report| assert_eq!(report.code, 66));
+        assert_eq!(said.map_err(Refusal::number), taken, "{text}");
+        let mut table = Table::open(codes, 101, P7.ssrc, P7.start).unwrap();
+        assert_eq!(table.codes(), codes);
+        assert_eq!(table.receive(&packet).map(|_| ()).map_err(Refusal::number), taken, "{text}");
+        let mut table = Table::open_redundant(codes, 101, 96, P7.ssrc, P7.start).unwrap();
+        let mut entries = [Entry::default()];
+        assert_eq!(table.receive_redundant(&packet, &mut entries), Ok(1));
+        assert_eq!(entries[0].answer().map(|_| ()).map_err(Refusal::number), taken, "{text}");
+        assert_eq!(report.write(codes, &mut [0; 16]).map_err(Refusal::number), given, "{text}");
+        let written = report.write_redundant(codes, 96, &[], &mut [0; 17]).map(|_| ());
+        assert_eq!(written.map_err(Refusal::number), given, "{text}");
+        assert_eq!(of_66.report_count(codes).map(|_| ()).map_err(Refusal::number), given, "{text}");
+        let written = of_66.write_report(codes, 1, &mut [0; 16]);
+        assert_eq!(written.map_err(Refusal::number), given, "{text}");
+    }
+    // The older reports' codes too.
+    let codes: Codes = "5".parse().unwrap();
+    for (code, is_in) in [(5, true), (6, false), (5 + 256, false)] {
+        let older = OlderReport { timestamp: REPORT.timestamp, code, ..OLDER[1] };
+        let written = REPORT.write_redundant(codes, 96, &[older], &mut [0; 25]);
+        assert_eq!(written, if is_in { Ok(25) } else { Err(Refusal::OutOfRange) });
+    }
+}
+
+#[test]
+fn nothing_is_opened_or_written_with_an_empty_set() {
+    let none = Codes::EMPTY;
+    assert_eq!(Table::open(none, 101, 7, 0), Err(Refusal::OutOfRange));
+    assert_eq!(Table::open_redundant(none, 101, 96, 7, 0), Err(Refusal::OutOfRange));
+    assert_eq!(Table::from_segments(none, 101, 7, 0, &[]), Err(Refusal::OutOfRange));
+    assert_eq!(REPORT.write(none, &mut []), Err(Refusal::OutOfRange));
+    assert_eq!(REPORT.write_redundant(none, 96, &[], &mut []), Err(Refusal::OutOfRange));
+    assert_eq!(P7.report_count(none), Err(Refusal::OutOfRange));
+    assert_eq!(P7.write_report(none, 0, &mut []), Err(Refusal::OutOfRange));
+    // The reader and the receivers have 8 for every code.
+    let mut table = Table::open(KEYS, 101, P7.ssrc, P7.start).unwrap();
+    table.head.codes = none;
+    assert!(table.is_valid());
+    for code in 0..=255 {
+        let mut packet = P7.packets(KEYS).unwrap().next().unwrap();
+        packet[12] = code;
+        assert_eq!(Report::read(none, &packet), Err(Refusal::CodeNotInSet));
+        assert_eq!(table.receive(&packet), Err(Refusal::CodeNotInSet));
+    }
+    assert_eq!(table.events(), Ok(Vec::new()));
+}
+
+#[test]
+fn a_table_holds_codes_of_its_set() {
+    let segment = |code| Segment { code, duration: 1, ..Segment::default() };
+    let codes: Codes = "5,70,255".parse().unwrap();
+    let held = [5, 70, 255].map(segment);
+    let table = Table::from_segments(codes, 101, 7, 0, &held).unwrap();
+    assert_eq!(table.events().unwrap().len(), 3);
+    for (without, is_valid) in [(5, false), (70, false), (255, false), (6, true)] {
+        let mut table = table.clone();
+        table.head.codes.remove(without);
+        assert_eq!(table.is_valid(), is_valid);
+        assert_eq!(table.events().is_ok(), is_valid);
+        // Above the number held the codes are not tested.
+        table.head.count = 0;
+        assert!(table.is_valid());
+    }
+    for code in [4, 6, 69, 71, 254] {
+        let refused = Table::from_segments(codes, 101, 7, 0, &[segment(code)]);
+        assert_eq!(refused, Err(Refusal::InvalidTable));
+    }
 }
 
 #[test]
 fn each_refusal_has_its_number_and_words() {
-    assert!(Refusal::ALL.map(Refusal::number).into_iter().eq(1..=19));
+    assert!(Refusal::ALL.map(Refusal::number).into_iter().eq(1..=20));
     let words = Refusal::ALL.map(|refusal| refusal.to_string());
-    assert_eq!(HashSet::from(words).len(), 19);
-    assert!(Refusal::ALL.is_sorted() && Refusal::BlocksTooLong < Refusal::Unknown);
+    assert_eq!(HashSet::from(words).len(), 20);
+    assert!(Refusal::ALL.is_sorted() && Refusal::NoCodes < Refusal::Unknown);
     for number in 0..=255 {
         let known = Refusal::ALL.into_iter().find(|refusal| refusal.number() == number);
         assert_eq!(Refusal::try_from(number), known.ok_or(UnknownRefusal(number)));
@@ -612,11 +801,15 @@ fn each_refusal_has_its_number_and_words() {
 
 #[test]
 fn a_payload_type_may_be_of_any_width() {
-    let table = Table::open(101, 7, 0).unwrap();
+    let table = Table::open(KEYS, 101, 7, 0).unwrap();
     let head = table.head;
-    assert_eq!(Table::open(head.payload_type, 7, 0).as_ref(), Ok(&table));
-    assert_eq!(Table::open(P7.payload_type, 7, 0).as_ref(), Ok(&table));
-    assert_eq!(Table::from_segments(101_usize, 7, 0, &[]), Ok(table));
-    let refused = [Table::open(-1, 7, 0), Table::open(128, 7, 0), Table::open(1_u64 << 32, 7, 0)];
+    assert_eq!(Table::open(KEYS, head.payload_type, 7, 0).as_ref(), Ok(&table));
+    assert_eq!(Table::open(KEYS, P7.payload_type, 7, 0).as_ref(), Ok(&table));
+    assert_eq!(Table::from_segments(KEYS, 101_usize, 7, 0, &[]), Ok(table));
+    let refused = [
+        Table::open(KEYS, -1, 7, 0),
+        Table::open(KEYS, 128, 7, 0),
+        Table::open(KEYS, 1_u64 << 32, 7, 0),
+    ];
     assert_eq!(refused, [const { Err(Refusal::OutOfRange) }; 3]);
 }

@@ -5,10 +5,12 @@
 use std::fs;
 use std::mem::{offset_of, size_of};
 use std::process::Command;
-use twimbor::sys::{BlockStepResult, BlocksReceived, Captured, CountResult, Cursor, EventResult};
-use twimbor::sys::{Listed, Opened, ReadResult, Received, WalkStarted};
+use twimbor::sys::WalkStarted;
+use twimbor::sys::{BlockStepResult, BlocksReceived, Captured, CodesResult, CountResult, Cursor};
+use twimbor::sys::{EventResult, Listed, LowestResult, Opened, ReadResult, Received, TextResult};
 use twimbor::{
-    Entry, Event, Head, LONGEST_EVENT, OLDER_REPORTS, OlderReport, PACKET_BYTES, PLACES,
+    CODES_BYTES, Codes, Entry, Event, Head, LONGEST_EVENT, OLDER_REPORTS, OlderReport,
+    PACKET_BYTES, PLACES,
 };
 use twimbor::{Plan, REDUNDANT_BYTES, Refusal, Report, Table, Taken};
 
@@ -52,6 +54,15 @@ fn name_in_c(refusal: Refusal) -> String {
 #[test]
 fn structs_and_numbers_are_the_headers() {
     let mut file = format!("#include \"{HEADER}\"\n");
+    // A set is four words here, and a field for each in C.
+    file += &assertion("sizeof(twimbor_codes)", size_of::<Codes>());
+    for (word, field) in ["from_0", "from_64", "from_128", "from_192"].iter().enumerate() {
+        let place = format!("offsetof(twimbor_codes, {field})");
+        file += &assertion(&place, word * size_of::<u64>());
+    }
+    layout!(file, CodesResult as "twimbor_codes_result" { codes, refusal });
+    layout!(file, TextResult as "twimbor_text_result" { bytes, refusal });
+    layout!(file, LowestResult as "twimbor_lowest_result" { code, refusal });
     layout!(file, Report as "twimbor_report" {
         marker, payload_type, sequence, timestamp, ssrc, code, ended, volume, duration
     });
@@ -67,7 +78,7 @@ fn structs_and_numbers_are_the_headers() {
         after, start, end, offset, payload_type, primary, found
     });
     layout!(file, Head as "twimbor_head" {
-        payload_type, both_types, redundant_type, ssrc, origin, count
+        payload_type, both_types, redundant_type, ssrc, origin, codes, count
     });
     layout!(file, Table as "twimbor_table" { head, keys, heard });
     layout!(file, Event as "twimbor_event" { code, start, length, volume, began, ended });
@@ -89,6 +100,7 @@ fn structs_and_numbers_are_the_headers() {
     file += &assertion("TWIMBOR_PACKET_BYTES", PACKET_BYTES);
     file += &assertion("TWIMBOR_OLDER_REPORTS", OLDER_REPORTS);
     file += &assertion("TWIMBOR_REDUNDANT_BYTES", REDUNDANT_BYTES);
+    file += &assertion("TWIMBOR_CODES_BYTES", CODES_BYTES);
     file += &assertion("sizeof(uint32_t)", size_of::<Entry>());
     let path = concat!(env!("CARGO_TARGET_TMPDIR"), "/layout.c");
     fs::write(path, file).unwrap();
@@ -105,6 +117,9 @@ fn version_words_and_keys_are_the_headers() {
     let main = "int main(void)
 {
     puts(TWIMBOR_VERSION);
+    twimbor_codes keys = TWIMBOR_KEYS;
+    printf(\"%llx %llx \", (unsigned long long)keys.from_0, (unsigned long long)keys.from_64);
+    printf(\"%llx %llx\\n\", (unsigned long long)keys.from_128, (unsigned long long)keys.from_192);
     for (unsigned number = 1; number <= 255; number++) puts(twimbor_refusal_text(number));
     for (unsigned code = 0; code <= 255; code++) putchar(twimbor_key_character(code));
 }";
@@ -112,7 +127,9 @@ fn version_words_and_keys_are_the_headers() {
     let program = concat!(env!("CARGO_TARGET_TMPDIR"), "/words");
     fs::write(path, format!("#include \"{HEADER}\"\n#include <stdio.h>\n{main}\n")).unwrap();
     compile(&[path, "-o", program]);
-    let mut expected = format!("{}\n", env!("CARGO_PKG_VERSION"));
+    let [from_0, from_64, from_128, from_192] = Codes::KEYS.into();
+    let keys = format!("{from_0:x} {from_64:x} {from_128:x} {from_192:x}");
+    let mut expected = format!("{}\n{keys}\n", env!("CARGO_PKG_VERSION"));
     for number in 1..=255 {
         expected += &format!("{}\n", Refusal::try_from(number).unwrap_or(Refusal::Unknown));
     }

@@ -3,6 +3,7 @@ import collections
 import re
 import struct
 
+KEYS = range(16)  # the set of codes that the listing program takes
 SEGMENT = 65535  # the longest segment: the largest duration that a report can hold
 ROOM = 128  # the segments that a table holds
 PROBES = 8  # the most of them that are looked at to find one
@@ -74,7 +75,7 @@ def receive(session, table, packet):
     if size != 4:
         return 17 if size >= 8 and size % 4 == 0 else 7
     code, flags, duration = struct.unpack(">BBH", packet[start:end])
-    if code > 15:
+    if code not in KEYS:
         return 8
     if duration == 0:
         return 9

@@ -8,7 +8,7 @@ REFUSALS = {
     5: "another payload type: mostly sound, which is normal; redundant packets (RFC 2198) too",
     6: "another SSRC: the other direction, another call, or the sender changed its SSRC",
     7: "payload neither one report nor several: padding alone, a cut packet or, if it is all of them, an encrypted call",
-    8: "event code above 15, which is no key: flash, fax and line signals",
+    8: "event code not among the 16 keys: flash, fax and line signals",
     9: "duration 0, which RFC 4733 forbids for keys: a fault of the sender",
     10: "timestamp from before the origin, or 2^31 and more after it: list the call in parts, or from an earlier origin",
     11: "more than 128 segments: later keys are missing from this list; list the call in parts",

@@ -8,7 +8,7 @@ fn open(payload_type: u32, redundant_type: u32, ssrc: u32, origin: u32) {
     show::number(redundant_type);
     show::number(ssrc);
     show::number(origin);
-    let o = table::open_redundant(payload_type, redundant_type, ssrc, origin);
+    let o = table::open_redundant(codes::keys(), payload_type, redundant_type, ssrc, origin);
     show::name(b" =");
     let head = o.table.head;
     show::number(head.payload_type as u32);
@@ -21,7 +21,7 @@ fn open(payload_type: u32, redundant_type: u32, ssrc: u32, origin: u32) {
 
 // An empty table with these types in its head, into which a packet of no bytes is received: 16, or 1.
 fn types(payload_type: u8, both_types: u8, redundant_type: u8) {
-    let o = table::open(0, 7, 16);
+    let o = table::open(codes::keys(), 0, 7, 16);
     let t: Table = o.table;
     let mut head = t.head;
     head.payload_type = payload_type;

@@ -3,7 +3,7 @@ use model::Table;
 
 // A table for types 101 and 102 that holds one segment: key 5 from offset 0, 400 units.
 fn one_held() -> Table {
-    let o = table::open_redundant(101, 102, 7, 16);
+    let o = table::open_redundant(codes::keys(), 101, 102, 7, 16);
     let mut t = o.table;
     let mut head = t.head;
     let mut keys = t.keys;

@@ -52,6 +52,7 @@ fn row(
     }
     let mut out = [0xEEu8; 34];
     let a = block_writer::write_redundant(
+        codes::keys(),
         r,
         redundant_type,
         count,

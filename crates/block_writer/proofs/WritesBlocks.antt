@@ -8,7 +8,9 @@ use borrow.Author.Needs.{needs}
 use borrow.Author.Tests.{lt-leb, le-leb, lt-ltb, le-ltb, not-true, not-false}
 use lib.Dec.{leb, eqb}
 use lib.ListN.{length, set, length-set}
+use Rattle.model.specs.declared.Codes.{Codes}
 use Rattle.model.specs.declared.Report.{Report}
+use Rattle.model.specs.Codes.{isIn}
 use Rattle.model.specs.declared.OlderReport.{OlderReport}
 use Rattle.model.specs.Refusals.{answered, refusedBy}
 use Rattle.model.specs.Packet.{bit, headerBytes, payloadBytes, reportInRange}
@@ -27,9 +29,9 @@ use Rattle.model.specs.WriteRedundant.{
 use Rattle.model.specs.WrittenRedundant.{Writable}
 use Rattle.model.proofs.Basics.{and-then}
 use Rattle.model.proofs.Packets.{ranges, first-bytes}
-use Rattle.model.proofs.WrittenBlocks.{older-ranges, tested, packet-type, bytes-length}
+use Rattle.model.proofs.WrittenBlocks.{Tested, older-ranges, tested, packet-type, bytes-length}
 use Rattle.writer.specs.Pieces.{putAt}
-use Rattle.block_writer.specs.BlockPieces.{OlderAsked, EndsAsked, olderPut, endsPut}
+use Rattle.block_writer.specs.BlockPieces.{OlderAsked, EndsAsked, BlocksAsked, olderPut, endsPut}
 
 -- RANGES
 
@@ -44,113 +46,125 @@ module _ (p q : ℕ) where
     pub types-compared : q ≤ 127 → not (eqb p q) ≡ typesDiffer p q
     types-compared h = rw (le-leb p 127 t, le-leb q 127 h)
 
-module _ (r : Report) (o : OlderReport) where
-  pub older-code-above : 15 < o .code → false ≡ olderInRange r o
-  older-code-above h = rw (lt-leb (o .code) 15 h)
+module _ (codes : Codes) (r : Report) (o : OlderReport) (b : Bool) (known : b ≡ isIn codes (o .code)) where
+  pub older-code-outside : not b ≡ true → false ≡ olderInRange codes r o
+  older-code-outside h = rw (← known, not-true b h)
 
-  module _ (k : o .code ≤ 15) where
-    pub older-volume-high : 63 < o .volume → false ≡ olderInRange r o
-    older-volume-high h = rw (le-leb (o .code) 15 k, lt-leb (o .volume) 63 h)
+  module _ (k : not b ≡ false) where
+    pub older-volume-high : 63 < o .volume → false ≡ olderInRange codes r o
+    older-volume-high h = rw (← known, not-false b k, lt-leb (o .volume) 63 h)
 
     module _ (v : o .volume ≤ 63) where
-      pub older-duration-none : o .duration < 1 → false ≡ olderInRange r o
-      older-duration-none h = rw (le-leb (o .code) 15 k, le-leb (o .volume) 63 v, lt-leb 1 (o .duration) h)
+      pub older-duration-none : o .duration < 1 → false ≡ olderInRange codes r o
+      older-duration-none h = rw (← known, not-false b k, le-leb (o .volume) 63 v, lt-leb 1 (o .duration) h)
 
       module _ (d : 1 ≤ o .duration) where
-        pub older-duration-high : 65535 < o .duration → false ≡ olderInRange r o
+        pub older-duration-high : 65535 < o .duration → false ≡ olderInRange codes r o
         older-duration-high h =
-            rw (le-leb (o .code) 15 k, le-leb (o .volume) 63 v, le-leb 1 (o .duration) d, lt-leb (o .duration) 65535 h)
+            rw (← known, not-false b k, le-leb (o .volume) 63 v, le-leb 1 (o .duration) d, lt-leb (o .duration) 65535 h)
 
-        pub older-offset-tested : (n : ℕ) → o .duration ≤ 65535 → n ≡ offsetBefore r o → leb n 16383 ≡ olderInRange r o
+        pub older-offset-tested : (n : ℕ) → o .duration ≤ 65535 → n ≡ offsetBefore r o → leb n 16383 ≡ olderInRange codes r o
         older-offset-tested n h e =
-            rw (le-leb (o .code) 15 k, le-leb (o .volume) 63 v, le-leb 1 (o .duration) d, le-leb (o .duration) 65535 h, e)
+            rw (← known, not-false b k, le-leb (o .volume) 63 v, le-leb 1 (o .duration) d, le-leb (o .duration) 65535 h, e)
 
 and-last : (x : Bool) → x ≡ (x && true)
 and-last true = refl
 and-last false = refl
 
 -- the older reports that are counted, one by one
-module _ (r : Report) (first second : OlderReport) where
-  pub none-counted : (count : ℕ) → count < 1 → true ≡ allOlderInRange r (olderGiven count first second)
+module _ (codes : Codes) (r : Report) (first second : OlderReport) where
+  pub none-counted : (count : ℕ) → count < 1 → true ≡ allOlderInRange codes r (olderGiven count first second)
   unfolding allOlderInRange
   none-counted zero h = refl
   none-counted (suc n) h = absurd (omega arith)
 
-  module _ (b : Bool) (e : b ≡ olderInRange r first) where
-    pub first-refused : (count : ℕ) → 1 ≤ count → not b ≡ true → false ≡ allOlderInRange r (olderGiven count first second)
+  module _ (b : Bool) (e : b ≡ olderInRange codes r first) where
+    pub first-refused : (count : ℕ) → 1 ≤ count → not b ≡ true → false ≡ allOlderInRange codes r (olderGiven count first second)
     unfolding allOlderInRange
     first-refused zero h k = absurd (omega arith)
     first-refused (suc n) h k = rw (← e, not-true b k)
 
-    pub one-counted : (count : ℕ) → 1 ≤ count → not b ≡ false → count < 2 → true ≡ allOlderInRange r (olderGiven count first second)
+    pub one-counted : (count : ℕ) → 1 ≤ count → not b ≡ false → count < 2 → true ≡ allOlderInRange codes r (olderGiven count first second)
     unfolding allOlderInRange
     one-counted zero h k l = absurd (omega arith)
     one-counted (suc zero) h k l = rw (← e, not-false b k)
     one-counted (suc (suc n)) h k l = absurd (omega arith)
 
-    pub two-counted : (count : ℕ) (d : Bool) → not b ≡ false → 2 ≤ count → d ≡ olderInRange r second
-        → d ≡ allOlderInRange r (olderGiven count first second)
+    pub two-counted : (count : ℕ) (d : Bool) → not b ≡ false → 2 ≤ count → d ≡ olderInRange codes r second
+        → d ≡ allOlderInRange codes r (olderGiven count first second)
     unfolding allOlderInRange
     two-counted zero d k l f = absurd (omega arith)
     two-counted (suc zero) d k l f = absurd (omega arith)
     two-counted (suc (suc zero)) d k l f = rw (← e, not-false b k, ← f) (and-last d)
     two-counted (suc (suc (suc n))) d k l f = rw (← e, not-false b k, ← f) (and-last d)
 
-module _ (r : Report) (type count : ℕ) (first second : OlderReport) (b : Bool) (e : b ≡ reportInRange r) where
-  pub report-refused : not b ≡ true → false ≡ redundantInRange r type count first second
+module _ (codes : Codes) (r : Report) (type count : ℕ) (first second : OlderReport) (b : Bool) (e : b ≡ reportInRange codes r) where
+  pub report-refused : not b ≡ true → false ≡ redundantInRange codes r type count first second
   report-refused h = rw (← e, not-true b h)
 
   module _ (h : not b ≡ false) (d : Bool) (f : d ≡ typesDiffer (r .«payload_type») type) where
-    pub types-refused : not d ≡ true → false ≡ redundantInRange r type count first second
+    pub types-refused : not d ≡ true → false ≡ redundantInRange codes r type count first second
     types-refused k = rw (← e, ← f, not-false b h, not-true d k)
 
     module _ (k : not d ≡ false) where
-      pub third-refused : 2 < count → false ≡ redundantInRange r type count first second
+      pub third-refused : 2 < count → false ≡ redundantInRange codes r type count first second
       third-refused l = rw (← e, ← f, not-false b h, not-false d k, lt-leb count 2 l)
 
-      pub older-tested : (x : Bool) → count ≤ 2 → x ≡ allOlderInRange r (olderGiven count first second)
-          → x ≡ redundantInRange r type count first second
+      pub older-tested : (x : Bool) → count ≤ 2 → x ≡ allOlderInRange codes r (olderGiven count first second)
+          → x ≡ redundantInRange codes r type count first second
       older-tested x l g = rw (← e, ← f, not-false b h, not-false d k, le-leb count 2 l, ← g)
 
 -- WHAT THE TESTS LEAVE
 
-older-asked : (r : Report) (o : OlderReport) → r .«payload_type» ≤ 127 → olderInRange r o ≡ true → OlderAsked r o
-older-asked r o t h =
-    let k = older-ranges r o h in
-    record { type = t; offset = k .offset; payload = record { code = k .code; volume = k .volume; duration = k .most } }
+older-asked : (codes : Codes) (r : Report) (o : OlderReport) → r .«payload_type» ≤ 127 → olderInRange codes r o ≡ true → OlderAsked r o
+older-asked codes r o t h =
+    let k = older-ranges codes r o h in
+    record { type = t; offset = k .offset; payload = record { code = omega (arith, k .byte); volume = k .volume; duration = k .most } }
 
-module _ (r : Report) (type count : ℕ) (first second : OlderReport) (h : redundantInRange r type count first second ≡ true) where
+blocks-asked : (codes : Codes) (r : Report) (type count : ℕ) (first second : OlderReport)
+    → redundantInRange codes r type count first second ≡ true → BlocksAsked r type count first second
+unfolding allOlderInRange
+blocks-asked codes r type count first second h = record { few = t .few; ends = ends; older-first = one; older-second = two }
+  where
+    t : Tested codes r type count first second
+    t = tested codes r type count first second h
+
+    ends : EndsAsked r type
+    ends =
+        let k = ranges codes r (t .writable .report) in
+        record {
+          type = k .type;
+          other = packet-type codes r type (olderGiven count first second) (t .writable);
+          payload = record { code = omega (arith, k .byte); volume = k .volume; duration = k .most };
+        }
+
+    one : 1 ≤ count → OlderAsked r first
+    one l = older-asked codes r first (ends .type) (go count l (t .writable .older))
+      where
+        go : (n : ℕ) → 1 ≤ n → allOlderInRange codes r (olderGiven n first second) ≡ true → olderInRange codes r first ≡ true
+        go zero l e = absurd (omega arith)
+        go (suc n) l e = and-then (olderInRange codes r first) _ e .0
+
+    two : 2 ≤ count → OlderAsked r second
+    two l = older-asked codes r second (ends .type) (go count l (t .writable .older))
+      where
+        go : (n : ℕ) → 2 ≤ n → allOlderInRange codes r (olderGiven n first second) ≡ true → olderInRange codes r second ≡ true
+        go zero l e = absurd (omega arith)
+        go (suc zero) l e = absurd (omega arith)
+        go (suc (suc n)) l e = and-then (olderInRange codes r second) _ (and-then (olderInRange codes r first) _ e .1) .0
+
+module _ (r : Report) (type count : ℕ) (first second : OlderReport) (asked : BlocksAsked r type count first second) where
   pub at-most-two : count ≤ 2
-  at-most-two = tested r type count first second h .few
-
-  writable : Writable r type (olderGiven count first second)
-  writable = tested r type count first second h .writable
+  at-most-two = asked .few
 
   pub ends-asked : EndsAsked r type
-  ends-asked =
-      let k = ranges r (writable .report) in
-      record {
-        type = k .type;
-        other = packet-type r type (olderGiven count first second) writable;
-        payload = record { code = k .code; volume = k .volume; duration = k .most };
-      }
+  ends-asked = asked .ends
 
   pub first-asked : 1 ≤ count → OlderAsked r first
-  unfolding allOlderInRange
-  first-asked l = older-asked r first (ends-asked .type) (go count l (writable .older))
-    where
-      go : (n : ℕ) → 1 ≤ n → allOlderInRange r (olderGiven n first second) ≡ true → olderInRange r first ≡ true
-      go zero l e = absurd (omega arith)
-      go (suc n) l e = and-then (olderInRange r first) _ e .0
+  first-asked = asked .older-first
 
   pub second-asked : 2 ≤ count → OlderAsked r second
-  unfolding allOlderInRange
-  second-asked l = older-asked r second (ends-asked .type) (go count l (writable .older))
-    where
-      go : (n : ℕ) → 2 ≤ n → allOlderInRange r (olderGiven n first second) ≡ true → olderInRange r second ≡ true
-      go zero l e = absurd (omega arith)
-      go (suc zero) l e = absurd (omega arith)
-      go (suc (suc n)) l e = and-then (olderInRange r second) _ (and-then (olderInRange r first) _ e .1) .0
+  second-asked = asked .older-second
 
 -- PIECES
 
@@ -221,48 +235,48 @@ module _ (r : Report) (type : ℕ) (first second : OlderReport) (output : List �
           let n : count ≡ 1 = omega arith in
           f ∙ rw (e, n) (one-put (omega arith))
 
-      pub two-there : (three : List ℕ) → redundantInRange r type count first second ≡ true → 2 ≤ count
+      pub two-there : (three : List ℕ) → BlocksAsked r type count first second → 2 ≤ count
           → three ≡ olderPut r second 1 count two → three ≡ place (redundantPacketOf r type (olderGiven count first second)) output
       two-there three q h g =
-          let n : count ≡ 2 = omega (arith, at-most-two r type count first second q) in
+          let n : count ≡ 2 = omega (arith, q .few) in
           g ∙ rw (f, e, n) (two-put (omega arith))
 
 -- THE CALL
 
-module _ (r : Report) (type count : ℕ) (first second : OlderReport) where
-  module _ (output : List ℕ) (b : Bool) (e : b ≡ redundantInRange r type count first second) where
+module _ (codes : Codes) (r : Report) (type count : ℕ) (first second : OlderReport) where
+  module _ (output : List ℕ) (b : Bool) (e : b ≡ redundantInRange codes r type count first second) where
     module _ (h : not b ≡ true) where
-      pub out-of-range : refusedBy 12 tt ≡ writeRedundant r type count first second output .answer
+      pub out-of-range : refusedBy 12 tt ≡ writeRedundant codes r type count first second output .answer
       unfolding writeRedundant
       out-of-range = rw (← e, not-true b h)
 
-      pub out-of-range-stays : output ≡ writeRedundant r type count first second output .output
+      pub out-of-range-stays : output ≡ writeRedundant codes r type count first second output .output
       unfolding writeRedundant
       out-of-range-stays = rw (← e, not-true b h)
 
     module _ (h : not b ≡ false) where
-      pub in-range-asked : redundantInRange r type count first second ≡ true
-      in-range-asked = sym e ∙ not-false b h
+      pub in-range-asked : BlocksAsked r type count first second
+      in-range-asked = blocks-asked codes r type count first second (sym e ∙ not-false b h)
 
       bytes-there : length (redundantPacketOf r type (olderGiven count first second)) ≡ 17 + 8 * count
-      bytes-there = bytes-length r type count first second (at-most-two r type count first second in-range-asked)
+      bytes-there = bytes-length r type count first second (in-range-asked .few)
 
       module _ (k : length output < 17 + 8 * count) where
-        pub too-small : refusedBy 14 tt ≡ writeRedundant r type count first second output .answer
+        pub too-small : refusedBy 14 tt ≡ writeRedundant codes r type count first second output .answer
         unfolding writeRedundant
         too-small = rw (← e, not-false b h, bytes-there, lt-ltb (length output) (17 + 8 * count) k)
 
-        pub too-small-stays : output ≡ writeRedundant r type count first second output .output
+        pub too-small-stays : output ≡ writeRedundant codes r type count first second output .output
         unfolding writeRedundant
         too-small-stays = rw (← e, not-false b h, bytes-there, lt-ltb (length output) (17 + 8 * count) k)
 
       module _ (k : 17 + 8 * count ≤ length output) where
-        pub blocks-written : answered tt ≡ writeRedundant r type count first second output .answer
+        pub blocks-written : answered tt ≡ writeRedundant codes r type count first second output .answer
         unfolding writeRedundant
         blocks-written = rw (← e, not-false b h, bytes-there, le-ltb (length output) (17 + 8 * count) k)
 
         pub blocks-written-after : (after : List ℕ) → after ≡ place (redundantPacketOf r type (olderGiven count first second)) output
-            → after ≡ writeRedundant r type count first second output .output
+            → after ≡ writeRedundant codes r type count first second output .output
         unfolding writeRedundant
         blocks-written-after after x = x ∙ rw (← e, not-false b h, bytes-there, le-ltb (length output) (17 + 8 * count) k) refl
 
@@ -271,7 +285,7 @@ pub ruleset writing-blocks = (
   event-type-high,
   other-type-high,
   types-compared,
-  older-code-above,
+  older-code-outside,
   older-volume-high,
   older-duration-none,
   older-duration-high,

@@ -19,6 +19,13 @@ pub record EndsAsked (r : Report) (redundantType : ℕ) : Type 0 where
   pub other : redundantType ≤ 127
   pub payload : PayloadInRange (r .code) (r .volume) (r .duration)
 
+-- what the tests leave: the numbers of the ends, and of each older report that counts
+pub record BlocksAsked (r : Report) (redundantType count : ℕ) (first second : OlderReport) : Type 0 where
+  pub few : count ≤ 2
+  pub ends : EndsAsked r redundantType
+  pub older-first : 1 ≤ count → OlderAsked r first
+  pub older-second : 2 ≤ count → OlderAsked r second
+
 -- older block i of n: its header, and its data
 unfoldable pub olderPut : Report → OlderReport → ℕ → ℕ → List ℕ → List ℕ
 olderPut r o i n output =

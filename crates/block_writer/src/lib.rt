@@ -16,7 +16,9 @@ ghost use Rattle.model.specs.WriteRedundant.{
   redundantPacketOf,
   writeRedundant,
 };
-ghost use Rattle.block_writer.specs.BlockPieces.{OlderAsked, EndsAsked, endsPut, olderPut};
+ghost use Rattle.block_writer.specs.BlockPieces.{OlderAsked, EndsAsked, BlocksAsked, endsPut, olderPut};
+use codes::contains;
+use model::Codes;
 use model::OlderReport;
 use model::Report;
 use model::WriteAnswer;
@@ -53,11 +55,11 @@ fn types_differ(payload_type: u32, redundant_type: u32) -> bool
     payload_type != redundant_type
 }
 
-// Whether an older report's numbers are in the ranges of refusal 12, and its offset in 14 bits.
-fn older_in_range(r: Report, o: OlderReport) -> bool
-    ensures { λ b. ⌜ b ≡ olderInRange r o ⌝ }
+// Whether an older report's numbers are in the ranges of refusal 12, its code in the set, and its offset in 14 bits.
+fn older_in_range(codes: Codes, r: Report, o: OlderReport) -> bool
+    ensures { λ b. ⌜ b ≡ olderInRange codes r o ⌝ }
 {
-    if 15 < o.code {
+    if !contains(codes, o.code) {
         return false;
     }
     if 63 < o.volume {
@@ -73,32 +75,39 @@ fn older_in_range(r: Report, o: OlderReport) -> bool
 }
 
 // Whether those that are counted are; the others are not looked at.
-fn all_older_in_range(r: Report, count: u32, first: OlderReport, second: OlderReport) -> bool
-    ensures { λ b. ⌜ b ≡ allOlderInRange r (olderGiven count first second) ⌝ }
+fn all_older_in_range(
+    codes: Codes,
+    r: Report,
+    count: u32,
+    first: OlderReport,
+    second: OlderReport,
+) -> bool
+    ensures { λ b. ⌜ b ≡ allOlderInRange codes r (olderGiven count first second) ⌝ }
 {
     if count < 1 {
         return true;
     }
-    if !older_in_range(r, first) {
+    if !older_in_range(codes, r, first) {
         return false;
     }
     if count < 2 {
         return true;
     }
-    older_in_range(r, second)
+    older_in_range(codes, r, second)
 }
 
 // Whether nothing is refused with 12.
 fn redundant_in_range(
+    codes: Codes,
     r: Report,
     redundant_type: u32,
     count: u32,
     first: OlderReport,
     second: OlderReport,
 ) -> bool
-    ensures { λ b. ⌜ b ≡ redundantInRange r «redundant_type» count first second ⌝ }
+    ensures { λ b. ⌜ b ≡ redundantInRange codes r «redundant_type» count first second ⌝ }
 {
-    if !in_range(r) {
+    if !in_range(codes, r) {
         return false;
     }
     if !types_differ(r.payload_type, redundant_type) {
@@ -107,7 +116,7 @@ fn redundant_in_range(
     if 2 < count {
         return false;
     }
-    all_older_in_range(r, count, first, second)
+    all_older_in_range(codes, r, count, first, second)
 }
 
 // The 4 bytes of an older block's header: F set, the payload type, the offset in 14 bits, and the length 4 in 10.
@@ -166,7 +175,7 @@ fn put_blocks(
     second: OlderReport,
     out: &mut [u8],
 )
-    requires { ⌜ redundantInRange r «redundant_type» count first second ≡ true ⌝ }
+    requires { ⌜ BlocksAsked r «redundant_type» count first second ⌝ }
     requires { ⌜ 17 + 8 * count ≤ length (now out) ⌝ }
     ensures { λ _. ⌜ now (out .exit) ≡ place (redundantPacketOf r «redundant_type» (olderGiven count first second)) (now (out .entry)) ⌝ }
 {
@@ -183,8 +192,9 @@ fn put_blocks(
 }
 
 // Writes a report and the older ones that are counted, in the order given and before it, as one redundant packet at the start of the
-// output, or refuses with 12 or 14 and leaves the output as it is.
+// output, or refuses with 12, also for a code outside the set, or 14, and leaves the output as it is.
 pub fn write_redundant(
+    codes: Codes,
     r: Report,
     redundant_type: u32,
     count: u32,
@@ -192,10 +202,10 @@ pub fn write_redundant(
     second: OlderReport,
     out: &mut [u8],
 ) -> WriteAnswer
-    ensures { λ a. ⌜ toldWrite a ≡ writeRedundant r «redundant_type» count first second (now (out .entry)) .answer ⌝ }
-    ensures { λ a. ⌜ now (out .exit) ≡ writeRedundant r «redundant_type» count first second (now (out .entry)) .output ⌝ }
+    ensures { λ a. ⌜ toldWrite a ≡ writeRedundant codes r «redundant_type» count first second (now (out .entry)) .answer ⌝ }
+    ensures { λ a. ⌜ now (out .exit) ≡ writeRedundant codes r «redundant_type» count first second (now (out .entry)) .output ⌝ }
 {
-    if !redundant_in_range(r, redundant_type, count, first, second) {
+    if !redundant_in_range(codes, r, redundant_type, count, first, second) {
         return WriteAnswer::Refused(model::OUT_OF_RANGE);
     }
     if out.len() < 17 + 8 * (count as usize) {

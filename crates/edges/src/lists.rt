@@ -55,7 +55,7 @@ fn heard_at(at: usize) -> u32 {
 
 // A table that no call made, with the row's segments.
 fn made(i: usize) -> Table {
-    let o = table::open(101, 7, 0);
+    let o = table::open(codes::keys(), 101, 7, 0);
     let mut t = o.table;
     if i < LISTS {
         let at = i * 18;

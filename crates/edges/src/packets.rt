@@ -94,7 +94,7 @@ fn read(b: [u8; 64], len: usize) -> ReadAnswer {
     if 64 < len {
         return ReadAnswer::Refused(0);
     }
-    packet::read(&b[0..len])
+    packet::read(codes::keys(), &b[0..len])
 }
 
 // A read report's fields stand before the answer.
@@ -182,7 +182,7 @@ fn written(r: Report, room: usize) {
         return;
     }
     let mut out = [0xEEu8; 17];
-    let a = writer::write(r, &mut out[0..room]);
+    let a = writer::write(codes::keys(), r, &mut out[0..room]);
     show::answer(refusal_of(a));
     output(out);
 }

@@ -108,7 +108,7 @@ fn count_row(i: usize) {
     show::number(p.length);
     show::number(p.period);
     show::number(p.segment_size);
-    counted(plan::report_count(p));
+    counted(plan::report_count(codes::keys(), p));
 }
 
 const REPORTS: usize = 34;
@@ -163,7 +163,7 @@ fn written(p: Plan, k: u32, room: usize) {
         return;
     }
     let mut out = [0xEEu8; 17];
-    let a = plan::write_report(p, k, &mut out[0..room]);
+    let a = plan::write_report(codes::keys(), p, k, &mut out[0..room]);
     show::answer(refusal_of(a));
     output(out);
 }

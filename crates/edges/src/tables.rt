@@ -32,7 +32,12 @@ fn open_row(i: usize) {
     show::number(open_cell(at));
     show::number(open_cell(at + 1));
     show::number(open_cell(at + 2));
-    let o = table::open(open_cell(at), open_cell(at + 1), open_cell(at + 2));
+    let o = table::open(
+        codes::keys(),
+        open_cell(at),
+        open_cell(at + 1),
+        open_cell(at + 2),
+    );
     show::name(b" =");
     let head = o.table.head;
     show::number(head.payload_type as u32);
@@ -43,7 +48,7 @@ fn open_row(i: usize) {
 
 pub fn packet_of(r: Report) -> [u8; 16] {
     let mut out = [0u8; 16];
-    writer::write(r, &mut out[0..16]);
+    writer::write(codes::keys(), r, &mut out[0..16]);
     out
 }
 
@@ -196,7 +201,7 @@ fn segments(t: Table, n: usize) {
 
 // Reports at so many offsets, each new, from the highest to the lowest.
 pub fn filled(n: u32) -> Table {
-    let o = table::open(101, 7, 0);
+    let o = table::open(codes::keys(), 101, 7, 0);
     let mut t = o.table;
     let mut i = n;
     while 0 < i {
@@ -278,7 +283,7 @@ pub fn heard(duration: u32, volume: u32, ended: bool, marked: bool) -> u32 {
 
 // A table that no call made.
 fn made(i: usize) -> Table {
-    let o = table::open(0, 7, 0);
+    let o = table::open(codes::keys(), 0, 7, 0);
     let mut t = o.table;
     if i < TESTS {
         let at = i * 6;
@@ -318,7 +323,7 @@ pub fn run() {
     for i in 0..OPENS {
         open_row(i);
     }
-    let o = table::open(101, 7, 0xFFFFFFF0);
+    let o = table::open(codes::keys(), 101, 7, 0xFFFFFFF0);
     let mut t = o.table;
     for j in 0..RECEIVES {
         let u = receive_row(t, j);

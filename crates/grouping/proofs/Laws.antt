@@ -14,7 +14,8 @@ use Rattle.model.specs.declared.Head.{Head}
 use Rattle.model.specs.declared.Event.{Event}
 use Rattle.model.specs.Table.{segmentAt, segmentsFrom, tableOf, valid}
 use Rattle.model.specs.Events.{units, loudest, lastEnded, eventOf, continues, continuesNearest, continuing, eventsFrom}
-use Rattle.model.proofs.Tables.{tests-passed, valid-from}
+use Rattle.model.proofs.Tables.{Passed, tests-passed, valid-then, valid-from}
+use Rattle.segment.specs.Widths.{Narrow}
 use Rattle.grouping.specs.Places.{InRanges, earlier, begins, later, lengthened, eventFrom, eventsIn}
 
 -- ONE SEGMENT AND THE NEXT
@@ -81,9 +82,16 @@ module _ (keys heard : List ℕ) where
   -- THE PLACES
 
   pub in-ranges : (head : Head) → valid (tableOf head keys heard) ≡ true → InRanges keys heard (head .count)
-  in-ranges head v =
-      let p = tests-passed (tableOf head keys heard) v in
-      record { few = p .few; each = λ i h. valid-from keys heard (head .count) 0 (p .each) i (omega arith) (omega arith) }
+  in-ranges head v = record { few = p .few; each = narrow }
+    where
+      p : Passed (tableOf head keys heard)
+      p = tests-passed (tableOf head keys heard) v
+
+      narrow : (i : ℕ) → i < head .count → Narrow (getD keys i 0) (getD heard i 0)
+      narrow i h =
+          let s = valid-then (head .codes) (segmentAt keys heard i)
+          (valid-from (head .codes) keys heard (head .count) 0 (p .each) i (omega arith) (omega arith)) in
+          record { offset = omega (arith, s .offset); volume = omega (arith, s .volume) }
 
   pub fewer : (n i : ℕ) → InRanges keys heard n → i < n → InRanges keys heard (i + 1)
   fewer n i r h = record { few = omega (arith, r .few); each = λ j l. r .each j (omega arith) }

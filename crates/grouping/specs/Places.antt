@@ -1,12 +1,13 @@
 -- The events of two columns by the places of their segments: what the functions that go from place to place answer. They
 -- see the columns and how many places are held; a table's head plays no part.
 use Prim.Native.Nat.{ℕ, zero, suc, _+_, _-_, _≤_, _<_, min}
-use mathlib.Core.Path.{_≡_}
-use mathlib.Core.Bool.{Bool, true, not}
+use mathlib.Core.Bool.{Bool, not}
 use mathlib.Core.List.{List, [], _∷_}
+use lib.ListN.{getD}
 use Rattle.model.specs.declared.Segment.{Segment}
 use Rattle.model.specs.declared.Event.{Event}
-use Rattle.model.specs.Table.{segmentAt, segmentsFrom, validSegment}
+use Rattle.model.specs.Table.{segmentAt, segmentsFrom}
+use Rattle.segment.specs.Widths.{Narrow}
 use Rattle.model.specs.Events.{eventOf, continuesNearest, continuing, eventsOf}
 
 -- an event that one segment more continues
@@ -21,10 +22,10 @@ lengthened v s = record {
 }
 
 module _ (keys heard : List ℕ) where
-  -- n places, at most 128, and the segment at each within its ranges
+  -- n places, at most 128, and the fields of the segment at each as wide as their types
   pub record InRanges (n : ℕ) : Type 0 where
     pub few : n ≤ 128
-    pub each : (i : ℕ) → i < n → validSegment (segmentAt keys heard i) ≡ true
+    pub each : (i : ℕ) → i < n → Narrow (getD keys i 0) (getD heard i 0)
 
   -- the segments before place i, nearest first
   unfoldable pub earlier : ℕ → List Segment

@@ -27,9 +27,9 @@ fn list_into(t: Table, capture: i32)
     print::listing(so_far, &keys, &heard);
 }
 
-// Lists a capture for the three numbers of a session; numbers that open refuses are bad.
+// Lists the keys of a capture for the three numbers of a session; numbers that open refuses are bad.
 fn list_session(payload_type: u32, ssrc: u32, origin: u32, capture: i32) {
-    let opened = table::open(payload_type, ssrc, origin);
+    let opened = table::open(codes::keys(), payload_type, ssrc, origin);
     if opened.refusal != 0 {
         faults::payload_type();
         print::bad_session();

@@ -96,7 +96,7 @@ says-too x y = record {
 
 module _ (t : Table) (es : List Sent) (sizes : Sizes t es) (fits : FitsTypes t es []) where
   pub apart : ApartFrom 0 es
-  apart = apart-from es (sizes .apart) (λ e m. let r = plan-ranges (planOf t e) (sizes .ranges e m) in (r .some, r .wide))
+  apart = apart-from es (sizes .apart) (λ e m. let r = plan-ranges (t .head .codes) (planOf t e) (sizes .ranges e m) .lengths in (r .some, r .wide))
 
   -- every report says something of a segment of the events
   abbrev pub ToldOf : Segment → Type 0
@@ -106,11 +106,12 @@ module _ (t : Table) (es : List Sent) (sizes : Sizes t es) (fits : FitsTypes t e
     pub reached : Reached t rs u
     pub type : u .head .«payload_type» ≡ t .head .«payload_type»
     pub source : u .head .ssrc ≡ t .head .ssrc
+    pub codes : u .head .codes ≡ t .head .codes
     pub told : (r : Segment) → Mem r rs → ToldOf r
 
   -- an empty table has heard nothing
   pub along-empty : Empty t → Along [] t
-  along-empty e = record { reached = start t e; type = refl; source = refl; told = λ r m. absurd (List·Memᴰ·not-nil m) }
+  along-empty e = record { reached = start t e; type = refl; source = refl; codes = refl; told = λ r m. absurd (List·Memᴰ·not-nil m) }
 
   -- WHAT A SENT REPORT SAYS
 
@@ -188,7 +189,7 @@ module _ (t : Table) (es : List Sent) (sizes : Sizes t es) (fits : FitsTypes t e
     pub sent-taken : hearRefusal u a ≡ none
     sent-taken = taken-if u a (record {
       searched = record {
-        payload = rw (sent-payload a (s .0) (s .1) (s .3)) (sent-passes t (s .0) (sizes .ranges (s .0) (s .2 .0)) (s .1) (s .2 .1) (s .2 .2));
+        payload = rw (sent-payload a (s .0) (s .1) (s .3), w .codes) (sent-passes t (s .0) (sizes .ranges (s .0) (s .2 .0)) (s .1) (s .2 .1) (s .2 .2));
         near = near;
       };
       room = rw heard (room-for rs u w (heardBy t a) (told-sent a s));
@@ -201,6 +202,7 @@ module _ (t : Table) (es : List Sent) (sizes : Sizes t es) (fits : FitsTypes t e
           reached = step-taken t u a rs (w .reached) (sent-fits a s) (taken-not-refused u a n);
           type = ap (λ (x : Table). x .head .«payload_type») (takes u a n) ∙ w .type;
           source = ap (λ (x : Table). x .head .ssrc) (takes u a n) ∙ w .source;
+          codes = ap (λ (x : Table). x .head .codes) (takes u a n) ∙ w .codes;
           told = λ r i. ⊎-elim (λ (q : r ≡ heardBy t a). rw q (told-sent a s)) (λ j. w .told r j) (List·Memᴰ·cases-cons i);
         }
 

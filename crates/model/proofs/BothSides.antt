@@ -5,11 +5,13 @@ use mathlib.Core.Path.{_≡_, refl}
 use mathlib.Core.Bool.{Bool, true, false}
 use mathlib.Core.List.{List, [], _∷_, map}
 use lib.ListN.{drop, replicate}
+use Rattle.model.specs.declared.Codes.{Codes}
 use Rattle.model.specs.declared.Report.{Report}
 use Rattle.model.specs.declared.Plan.{Plan}
 use Rattle.model.specs.declared.Event.{Event}
 use Rattle.model.specs.declared.Table.{Table}
 use Rattle.model.specs.declared.Listed.{Listed}
+use Rattle.model.specs.Codes.{isIn, emptySet, theKeys}
 use Rattle.model.specs.Refusals.{Told, answered, refusedBy, toldWrite, toldCount, toldEvent}
 use Rattle.model.specs.declared.WriteAnswer.the-variants as writeAnswer
 use Rattle.model.specs.declared.CountAnswer.the-variants as countAnswer
@@ -64,8 +66,8 @@ plans =
     ∷ (plan 0 0 0 6401 160 400, refusedBy 12 0)
     ∷ []
 
-pub plans-counted : map (λ row. reportCount (row .0)) plans ≡ map (λ row. row .1) plans
-unfolding cutFrom interim reportsOfAll markFirst allOnWire reports
+pub plans-counted : map (λ row. reportCount theKeys (row .0)) plans ≡ map (λ row. row .1) plans
+unfolding isIn cutFrom interim reportsOfAll markFirst allOnWire reports
 plans-counted = refl
 
 -- three short segments, of 400, 400 and 200 units: marker, timestamp, duration and E of each report
@@ -77,7 +79,7 @@ sent =
     ∷ []
 
 pub short-segments-sent : map (λ r. (r .marker, r .timestamp, r .duration, r .ended)) (reports (plan 101 5 10 1000 300 400)) ≡ sent
-unfolding cutFrom interim reportsOfAll markFirst allOnWire reports
+unfolding isIn cutFrom interim reportsOfAll markFirst allOnWire reports
 short-segments-sent = refl
 
 -- report k of a plan of three, into so many bytes; what is told, and what is left behind the first 16 bytes
@@ -92,10 +94,10 @@ planned =
     ∷ []
 
 pub planned-told : map (λ row. (
-  writeReport (row .0 .0) (row .0 .1) (replicate (row .0 .2) 9) .answer,
-  drop 16 (writeReport (row .0 .0) (row .0 .1) (replicate (row .0 .2) 9) .output),
+  writeReport theKeys (row .0 .0) (row .0 .1) (replicate (row .0 .2) 9) .answer,
+  drop 16 (writeReport theKeys (row .0 .0) (row .0 .1) (replicate (row .0 .2) 9) .output),
 )) planned ≡ map (λ row. row .1) planned
-unfolding writeReport packetOf reportAt cutFrom interim reportsOfAll markFirst allOnWire reports
+unfolding isIn writeReport packetOf reportAt cutFrom interim reportsOfAll markFirst allOnWire reports
 planned-told = refl
 
 -- WRITTEN REPORTS
@@ -126,32 +128,42 @@ written =
     ∷ ((report 0 0 0 1, 15), refusedBy 14 tt)
     ∷ []
 
-pub written-told : map (λ row. write (row .0 .0) (replicate (row .0 .1) 9) .answer) written ≡ map (λ row. row .1) written
-unfolding write packetOf reportInRange
+pub written-told : map (λ row. write theKeys (row .0 .0) (replicate (row .0 .1) 9) .answer) written ≡ map (λ row. row .1) written
+unfolding isIn write packetOf reportInRange
 written-told = refl
 
 -- OPENING
 
 -- a table with no segments, and zeros in its 128 places
-abbrev zeros : ℕ → ℕ → ℕ → Table
-zeros type ssrc origin = record {
-  head = record { «payload_type» = type; «both_types» = 0; «redundant_type» = 0; ssrc = ssrc; origin = origin; count = 0 };
+abbrev zeros : Codes → ℕ → ℕ → ℕ → Table
+zeros codes type ssrc origin = record {
+  head = record { «payload_type» = type; «both_types» = 0; «redundant_type» = 0; ssrc = ssrc; origin = origin; codes = codes; count = 0 };
   keys = replicate 128 0;
   heard = replicate 128 0;
 }
 
-pub opened-at-127 : opened 127 7 9 ≡ record { table = zeros 127 7 9; refusal = 0 }
+pub opened-at-127 : opened theKeys 127 7 9 ≡ record { table = zeros theKeys 127 7 9; refusal = 0 }
 opened-at-127 = refl
 
-pub refused-at-128 : opened 128 7 9 ≡ record { table = zeros 0 0 0; refusal = 12 }
+pub refused-at-128 : opened theKeys 128 7 9 ≡ record { table = zeros emptySet 0 0 0; refusal = 12 }
 refused-at-128 = refl
+
+-- of no codes, and of the one code 255
+pub refused-for-none : opened emptySet 127 7 9 ≡ record { table = zeros emptySet 0 0 0; refusal = 12 }
+refused-for-none = refl
+
+abbrev last : Codes
+last = record { «from_0» = 0; «from_64» = 0; «from_128» = 0; «from_192» = 0x8000_0000_0000_0000 }
+
+pub opened-for-255 : opened last 127 7 9 ≡ record { table = zeros last 127 7 9; refusal = 0 }
+opened-for-255 = refl
 
 -- THE EVENT AT A NUMBER, AND THE LIST
 
 -- two presses of key 5, of which the second has no M; and the same with a payload type that fails the tests
 abbrev table : ℕ → Table
 table type = record {
-  head = record { «payload_type» = type; «both_types» = 0; «redundant_type» = 0; ssrc = 7; origin = 16; count = 2 };
+  head = record { «payload_type» = type; «both_types» = 0; «redundant_type» = 0; ssrc = 7; origin = 16; codes = theKeys; count = 2 };
   keys = 5 ∷ 0x6405 ∷ [];
   heard = 0x2A_0190 ∷ 0x29_0028 ∷ [];
 }
@@ -178,7 +190,7 @@ numbers =
     ∷ []
 
 pub numbers-told : map (λ row. eventAt (row .0 .0) (row .0 .1)) numbers ≡ map (λ row. row .1) numbers
-unfolding valid rising allValid segmentsFrom units loudest lastEnded continuesNearest continuing eventsFrom
+unfolding isIn valid rising allValid segmentsFrom units loudest lastEnded continuesNearest continuing eventsFrom
 numbers-told = refl
 
 -- so many records lent, and what they are after the call
@@ -192,7 +204,7 @@ lists =
 
 pub lists-told : map (λ row. (list (row .0 .0) (replicate (row .0 .1) none) .answer, list (row .0 .0) (replicate (row .0 .1) none) .records)) lists
     ≡ map (λ row. row .1) lists
-unfolding valid rising allValid segmentsFrom units loudest lastEnded continuesNearest continuing eventsFrom
+unfolding isIn valid rising allValid segmentsFrom units loudest lastEnded continuesNearest continuing eventsFrom
 lists-told = refl
 
 -- A REFUSAL TOLD

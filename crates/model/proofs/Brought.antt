@@ -80,7 +80,7 @@ module _ (t : Table) (es : List Sent) (more : List Arrival) (d : Brought t es mo
 
   -- WHAT WAS NEEDED IS WHAT EACH SEGMENT HAS TO HAVE
   module _ (e : Sent) (m : Mem e es) (g : Segment) (i : Mem g (segmentsSent (planOf t) e)) where
-    range : planInRange (planOf t e) ≡ true
+    range : planInRange (t .head .codes) (planOf t e) ≡ true
     range = d .sizes .ranges e m
 
     marked : g .marked ≡ true → (r : Segment) × Mem r rs × Says g r × (r .marked ≡ true)
@@ -114,7 +114,7 @@ module _ (t : Table) (es : List Sent) (more : List Arrival) (d : Brought t es mo
 
         place : (x : Segment) → Mem x (segmentsSent (planOf t) e)
             → InCut (planOf t e) (e .start) (e .start + (fullSegments (planOf t e) * e .«segment_size» + restUnits (planOf t e))) x
-        place = cut-place (planOf t e) (plan-ranges (planOf t e) range .wide) (fullSegments (planOf t e)) (e .start) true
+        place = cut-place (planOf t e) (plan-ranges (t .head .codes) (planOf t e) range .lengths .wide) (fullSegments (planOf t e)) (e .start) true
 
         same-offset : said t e k .offset ≡ g .offset
         same-offset =
@@ -124,7 +124,7 @@ module _ (t : Table) (es : List Sent) (more : List Arrival) (d : Brought t es mo
               ap (λ (s : Segment). s .offset) moved,
               said-before t e range k (h .low) (h .high),
               place g i .to,
-              cut-units (planOf t e) (plan-ranges (planOf t e) range .some),
+              cut-units (planOf t e) (plan-ranges (t .head .codes) (planOf t e) range .lengths .some),
               d .sizes .near e m,
             )
 

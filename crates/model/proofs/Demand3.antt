@@ -109,7 +109,7 @@ module _ (t : Table) (es : List Sent) (sizes : Sizes t es) (fits : FitsTypes t e
         let q = sent-report t e range k (o .1) (o .2) (fits .ssrc) in
         rw (sent-bytes t e range k (o .1) (o .2)) (read-if u _ (record {
           passes = w .1 .reached .passes;
-          header = packet-header (reportAt (planOf t e) k) (sent-in-range t e range k (o .1) (o .2));
+          header = packet-header (reportAt (planOf t e) k);
           type = ap (λ (x : Report). x .«payload_type») q ∙ sym (w .1 .type);
           source = ap (λ (x : Report). x .ssrc) q ∙ sym (w .1 .source);
         }))

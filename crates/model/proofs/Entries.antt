@@ -6,6 +6,7 @@ use mathlib.Core.List.{List}
 use native.Mathlib.Omega.{arith}
 use lib.Dec.{ltb, eqb}
 use borrow.Author.Tests.{ltb-true, eqb-true}
+use Rattle.model.specs.declared.Codes.{Codes}
 use Rattle.model.specs.declared.Table.{Table}
 use Rattle.model.specs.declared.Received.{Received}
 use Rattle.model.specs.Refusals.{none}
@@ -27,9 +28,9 @@ small-header : (bs : List ℕ) → Small (headerRefusal bs)
 unfolding headerRefusal
 small-header bs = search either
 
-small-payload : (p : List ℕ) → Small (payloadRefusal p)
+small-payload : (codes : Codes) (p : List ℕ) → Small (payloadRefusal codes p)
 unfolding payloadRefusal
-small-payload p = search either
+small-payload codes p = search either
 
 small-hearing : (t : Table) (a : Arrival) → Small (hearRefusal t a)
 unfolding hearRefusal unheard

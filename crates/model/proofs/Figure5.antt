@@ -6,6 +6,7 @@ use mathlib.Core.Bool.{true, false}
 use mathlib.Core.List.{List, [], _∷_, _++_}
 use lib.ListN.{drop}
 use Rattle.model.specs.declared.Table.{Table}
+use Rattle.model.specs.Codes.{isIn, theKeys}
 use Rattle.model.specs.Packet.{afterHeader, payload, headerRefusal, payloadRefusal}
 use Rattle.model.specs.Segments.{rising}
 use Rattle.model.specs.Search.{searching}
@@ -71,25 +72,25 @@ unfolding HandsOut blockStep
 figure-walked = (refl, refl, (refl, refl, refl))
 
 abbrev table : Table
-table = openedBoth 100 102 0x5234A8 0 .table
+table = openedBoth theKeys 100 102 0x5234A8 0 .table
 
 -- One entry is enough. The event's report is at 12800 less 1600, as in Figure 3: key 1 from 11200 on for 1760 units, with its end heard, and not
 -- its marked beginning.
 pub figure-received : receiveRedundant table packet (9 ∷ 9 ∷ []) .answer ≡ record { blocks = 1; count = 1; refusal = 0 }
-unfolding receiveRedundant receivingEach answersTo tableAfterReports wholeRefusal refusalOfBoth refusalForBoth reportsIn ofType
+unfolding isIn receiveRedundant receivingEach answersTo tableAfterReports wholeRefusal refusalOfBoth refusalForBoth reportsIn ofType
     blocksRefusal blocks cutData older olderWithin lengths hear hearRefusal unheard probes heardBy valid rising allValid segmentsFrom holds
     put headerRefusal afterHeader payload payloadRefusal searching
 figure-received = refl
 
 pub figure-entries : receiveRedundant table packet (9 ∷ 9 ∷ []) .entries ≡ 256 ∷ 9 ∷ []
-unfolding receiveRedundant receivingEach answersTo tableAfterReports wholeRefusal refusalOfBoth refusalForBoth reportsIn ofType
+unfolding isIn receiveRedundant receivingEach answersTo tableAfterReports wholeRefusal refusalOfBoth refusalForBoth reportsIn ofType
     blocksRefusal blocks cutData older olderWithin lengths hear hearRefusal unheard probes heardBy valid rising allValid segmentsFrom holds
     put headerRefusal afterHeader payload payloadRefusal searching
 figure-entries = refl
 
 pub figure-listed : events (receiveRedundant table packet (9 ∷ []) .table)
     ≡ record { code = 1; start = 11200; length = 1760; volume = 20; began = false; ended = true } ∷ []
-unfolding receiveRedundant receivingEach answersTo tableAfterReports wholeRefusal refusalOfBoth refusalForBoth reportsIn ofType
+unfolding isIn receiveRedundant receivingEach answersTo tableAfterReports wholeRefusal refusalOfBoth refusalForBoth reportsIn ofType
     blocksRefusal blocks cutData older olderWithin lengths hear hearRefusal unheard probes heardBy valid rising allValid segmentsFrom holds
     put headerRefusal afterHeader payload payloadRefusal searching units loudest lastEnded continuesNearest continuing eventsFrom
 figure-listed = refl

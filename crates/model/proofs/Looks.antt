@@ -7,6 +7,8 @@ use mathlib.Core.Logic.{_⊎_, inl, inr, ⊎-elim}
 use native.Mathlib.Omega.{arith}
 use lib.Dec.{eqb}
 use borrow.Author.Tests.{eqb-true, eqb-false}
+use Rattle.model.specs.declared.Codes.{Codes}
+use Rattle.model.specs.declared.Head.{Head}
 use Rattle.model.specs.declared.Table.{Table}
 use Rattle.model.specs.Refusals.{tableFull, none}
 use Rattle.model.specs.Packet.{headerRefusal, payloadRefusal}
@@ -34,7 +36,7 @@ use Rattle.model.proofs.Receives.{answer-refusal, answer-probes, read-t
 
 few-probes : (t : Table) (a : Arrival) → valid t ≡ true → probes t a ≤ 8
 unfolding probes
-few-probes t a v = go (eqb (unheard (t .head .origin) a) none)
+few-probes t a v = go (eqb (unheard (t .head) a) none)
   where
     go : (b : Bool) → cond b (lookup.search (heardBy t a) (held t) .probes) 0 ≤ 8
     go true = at-most-8 (heardBy t a) (held t) (omega (arith, held-length t, tests-passed t v .few))
@@ -65,13 +67,13 @@ other-header : (bs : List ℕ) → Other (headerRefusal bs)
 unfolding headerRefusal
 other-header bs = search either
 
-other-payload : (p : List ℕ) → Other (payloadRefusal p)
+other-payload : (codes : Codes) (p : List ℕ) → Other (payloadRefusal codes p)
 unfolding payloadRefusal
-other-payload p = search either
+other-payload codes p = search either
 
-other-unheard : (origin : ℕ) (a : Arrival) → Other (unheard origin a)
+other-unheard : (h : Head) (a : Arrival) → Other (unheard h a)
 unfolding unheard
-other-unheard origin a = search (either, other-payload) depth 8
+other-unheard h a = search (either, other-payload) depth 8
 
 other-packet : (t : Table) (bs : List ℕ) → Other (packetRefusal t bs)
 unfolding packetRefusal refusalFor
@@ -89,28 +91,28 @@ module _ (t : Table) (a : Arrival) where
 
   hears-of-search : Searches (hear t a) → hear t a .answer .probes ≡ looked
   unfolding hearRefusal probes
-  hears-of-search h = answer-probes t a ∙ go (eqb (unheard (t .head .origin) a) none) refl (⊎-elim (λ e. inl (told ∙ e)) (λ e. inr (told ∙ e)) h)
+  hears-of-search h = answer-probes t a ∙ go (eqb (unheard (t .head) a) none) refl (⊎-elim (λ e. inl (told ∙ e)) (λ e. inr (told ∙ e)) h)
     where
       told : hearRefusal t a ≡ hear t a .answer .refusal
       told = sym (answer-refusal t a)
 
-      go : (b : Bool) → eqb (unheard (t .head .origin) a) none ≡ b
-          → (cond b (cond (noRoom t (heardBy t a)) 11 0) (unheard (t .head .origin) a) ≡ none)
-          ⊎ (cond b (cond (noRoom t (heardBy t a)) 11 0) (unheard (t .head .origin) a) ≡ tableFull)
+      go : (b : Bool) → eqb (unheard (t .head) a) none ≡ b
+          → (cond b (cond (noRoom t (heardBy t a)) 11 0) (unheard (t .head) a) ≡ none)
+          ⊎ (cond b (cond (noRoom t (heardBy t a)) 11 0) (unheard (t .head) a) ≡ tableFull)
           → cond b looked 0 ≡ looked
       go true e h = refl
-      go false e (inl q) = absurd (eqb-false (unheard (t .head .origin) a) none e q)
-      go false e (inr q) = absurd (eqb-false (unheard (t .head .origin) a) tableFull (other-unheard (t .head .origin) a) q)
+      go false e (inl q) = absurd (eqb-false (unheard (t .head) a) none e q)
+      go false e (inr q) = absurd (eqb-false (unheard (t .head) a) tableFull (other-unheard (t .head) a) q)
 
   hears-before-search : (Searches (hear t a) → ⊥) → hear t a .answer .probes ≡ 0
   unfolding hearRefusal probes
-  hears-before-search p = answer-probes t a ∙ go (eqb (unheard (t .head .origin) a) none) (noRoom t (heardBy t a)) (λ e. p (inl (told ∙ e))) (λ e. p (inr (told ∙ e)))
+  hears-before-search p = answer-probes t a ∙ go (eqb (unheard (t .head) a) none) (noRoom t (heardBy t a)) (λ e. p (inl (told ∙ e))) (λ e. p (inr (told ∙ e)))
     where
       told : hear t a .answer .refusal ≡ hearRefusal t a
       told = answer-refusal t a
 
-      go : (b c : Bool) → (cond b (cond c 11 0) (unheard (t .head .origin) a) ≡ none → ⊥)
-          → (cond b (cond c 11 0) (unheard (t .head .origin) a) ≡ tableFull → ⊥) → cond b looked 0 ≡ 0
+      go : (b c : Bool) → (cond b (cond c 11 0) (unheard (t .head) a) ≡ none → ⊥)
+          → (cond b (cond c 11 0) (unheard (t .head) a) ≡ tableFull → ⊥) → cond b looked 0 ≡ 0
       go true true p q = absurd (q refl)
       go true false p q = absurd (p refl)
       go false c p q = refl

@@ -7,6 +7,7 @@ use mathlib.Core.Bool.{Bool, true, false}
 use mathlib.Core.List.{List, [], _∷_, map}
 use Rattle.model.specs.declared.Event.{Event}
 use Rattle.model.specs.declared.Table.{Table}
+use Rattle.model.specs.Codes.{isIn, theKeys}
 use Rattle.model.specs.Packet.{afterHeader, payload, headerRefusal, payloadRefusal, packetOf}
 use Rattle.model.specs.Plan.{cutFrom, interim, reportsOfAll, markFirst, allOnWire, reports, reportAt, writeReport}
 use Rattle.model.specs.Segments.{rising}
@@ -18,7 +19,7 @@ use Rattle.model.specs.Sizes.{Sent}
 use Rattle.model.specs.Demands.{Handed, sent, packets}
 
 abbrev table : Table
-table = opened 101 7 0 .table
+table = opened theKeys 101 7 0 .table
 
 abbrev press : ℕ → ℕ → ℕ → ℕ → ℕ → Sent
 press code start length period size =
@@ -82,7 +83,7 @@ rows =
     ∷ []
 
 pub rows-listed : map (λ row. events (tableAfter table (packets table (row .0)))) rows ≡ map (λ row. row .1) rows
-unfolding tableAfter receive packetRefusal refusalFor hear hearRefusal unheard probes heardBy arrivalIn valid rising allValid segmentsFrom holds put headerRefusal afterHeader payload
+unfolding isIn tableAfter receive packetRefusal refusalFor hear hearRefusal unheard probes heardBy arrivalIn valid rising allValid segmentsFrom holds put headerRefusal afterHeader payload
     payloadRefusal writeReport packetOf reportAt reports allOnWire markFirst reportsOfAll interim cutFrom units loudest lastEnded
     continuesNearest continuing eventsFrom
 rows-listed = refl

@@ -4,24 +4,30 @@ use mathlib.Core.Path.{_≡_, refl}
 use mathlib.Core.Bool.{Bool, true, false}
 use mathlib.Core.List.{List, [], _∷_, map}
 use lib.ListN.{replicate}
+use Rattle.model.specs.declared.Codes.{Codes}
 use Rattle.model.specs.declared.Head.{Head}
 use Rattle.model.specs.declared.Table.{Table}
 use Rattle.model.specs.declared.Opened.{Opened}
+use Rattle.model.specs.Codes.{isIn, emptySet, theKeys}
 use Rattle.model.specs.Segments.{rising}
 use Rattle.model.specs.Table.{segmentsFrom, openedBoth, allValid, valid}
 
 -- OPENING
 
--- by the event's type, what says that it is opened for both, the other type, SSRC, origin and number of segments
-abbrev pub head : ℕ → ℕ → ℕ → ℕ → ℕ → ℕ → Head
-head type both redundant ssrc origin count = record {
+-- by the set, the event's type, what says that it is opened for both, the other type, SSRC, origin and number of segments
+abbrev pub headFor : Codes → ℕ → ℕ → ℕ → ℕ → ℕ → ℕ → Head
+headFor codes type both redundant ssrc origin count = record {
   «payload_type» = type;
   «both_types» = both;
   «redundant_type» = redundant;
   ssrc = ssrc;
   origin = origin;
+  codes = codes;
   count = count;
 }
+
+abbrev pub head : ℕ → ℕ → ℕ → ℕ → ℕ → ℕ → Head
+head = headFor theKeys
 
 abbrev pub zeros : Head → Table
 zeros h = record { head = h; keys = replicate 128 0; heard = replicate 128 0 }
@@ -31,7 +37,7 @@ opening type redundant = record { table = zeros (head type 1 redundant 7 9 0); r
 
 -- the empty table of zeros, of the first opening's kind
 abbrev notOpened : Opened
-notOpened = record { table = zeros (head 0 0 0 0 0 0); refusal = 12 }
+notOpened = record { table = zeros (headFor emptySet 0 0 0 0 0 0); refusal = 12 }
 
 abbrev openings : List ((ℕ × ℕ) × Opened)
 openings =
@@ -48,8 +54,11 @@ openings =
     ∷ ((128, 128), notOpened)
     ∷ []
 
-pub openings-answer : map (λ row. openedBoth (row .0 .0) (row .0 .1) 7 9) openings ≡ map (λ row. row .1) openings
+pub openings-answer : map (λ row. openedBoth theKeys (row .0 .0) (row .0 .1) 7 9) openings ≡ map (λ row. row .1) openings
 openings-answer = refl
+
+pub not-opened-for-none : openedBoth emptySet 127 126 7 9 ≡ notOpened
+not-opened-for-none = refl
 
 -- THE TESTS OF 16
 
@@ -75,5 +84,5 @@ tests =
     ∷ []
 
 pub tests-answer : map (λ row. valid (zeros (head (row .0 .0) (row .0 .1) (row .0 .2) 7 9 0))) tests ≡ map (λ row. row .1) tests
-unfolding valid rising allValid segmentsFrom
+unfolding isIn valid rising allValid segmentsFrom
 tests-answer = refl

@@ -7,6 +7,7 @@ use mathlib.Core.List.{List, [], _∷_, _++_, map}
 use lib.ListN.{replicate}
 use Rattle.model.specs.declared.Table.{Table}
 use Rattle.model.specs.declared.BlocksReceived.{BlocksReceived}
+use Rattle.model.specs.Codes.{isIn}
 use Rattle.model.specs.Packet.{afterHeader, payload, headerRefusal, payloadRefusal}
 use Rattle.model.specs.Segments.{rising}
 use Rattle.model.specs.Search.{middle, isSmaller, kept, searching}
@@ -89,13 +90,13 @@ whole =
     ∷ []
 
 pub whole-refused : map (λ row. wholeRefusal (row .0 .0) (row .0 .1) (row .0 .2)) whole ≡ map (λ row. row .1) whole
-unfolding wholeRefusal refusalOfBoth refusalForBoth reportsIn ofType blocksRefusal blocks cutData older olderWithin lengths
+unfolding isIn wholeRefusal refusalOfBoth refusalForBoth reportsIn ofType blocksRefusal blocks cutData older olderWithin lengths
     headerRefusal afterHeader payload arrivalIn valid rising allValid segmentsFrom
 whole-refused = refl
 
 -- 01's receiver gives 5 for the redundant type, in a table of either opening
 pub first-refuses : map (λ t. receive t (header 0x80 0x66 ++ three) .answer .refusal) (both 7 ∷ zeros (head 101 0 102 7 0 0) ∷ []) ≡ 5 ∷ 5 ∷ []
-unfolding receive packetRefusal refusalFor valid rising allValid segmentsFrom headerRefusal afterHeader payload
+unfolding isIn receive packetRefusal refusalFor valid rising allValid segmentsFrom headerRefusal afterHeader payload
 first-refuses = refl
 
 -- THE CALL
@@ -180,7 +181,7 @@ pub calls-answer :
       receiveRedundant table (row .0 .0) (row .0 .1) .entries,
       receiveRedundant table (row .0 .0) (row .0 .1) .table,
     )) calls ≡ map (λ row. row .1) calls
-unfolding receiveRedundant receivingEach answersTo tableAfterReports wholeRefusal refusalOfBoth refusalForBoth reportsIn ofType
+unfolding isIn receiveRedundant receivingEach answersTo tableAfterReports wholeRefusal refusalOfBoth refusalForBoth reportsIn ofType
     blocksRefusal blocks cutData older olderWithin lengths hear hearRefusal unheard probes heardBy arrivalIn valid rising allValid segmentsFrom holds
     put headerRefusal afterHeader payload payloadRefusal middle isSmaller kept searching
 calls-answer = refl
@@ -201,7 +202,7 @@ abbrev full-packet : List ℕ
 full-packet = header 0x80 0xE6 ++ ((0xE5 ∷ 0 ∷ 8 ∷ 4 ∷ 0xE5 ∷ 0 ∷ 4 ∷ 4 ∷ 0x65 ∷ []) ++ (good ++ (good ++ good)))
 
 pub full-entries : receiveRedundant full full-packet (9 ∷ 9 ∷ 9 ∷ []) .entries ≡ entry 11 0 7 ∷ entry 0 0 7 ∷ entry 11 0 7 ∷ []
-unfolding receiveRedundant receivingEach answersTo tableAfterReports wholeRefusal refusalOfBoth refusalForBoth reportsIn ofType
+unfolding isIn receiveRedundant receivingEach answersTo tableAfterReports wholeRefusal refusalOfBoth refusalForBoth reportsIn ofType
     blocksRefusal blocks cutData older olderWithin lengths hear hearRefusal unheard probes heardBy arrivalIn valid rising allValid segmentsFrom holds
     put headerRefusal afterHeader payload payloadRefusal middle isSmaller kept searching
 full-entries = refl

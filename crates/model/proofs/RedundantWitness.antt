@@ -13,6 +13,7 @@ use Rattle.model.specs.declared.Report.{Report}
 use Rattle.model.specs.declared.OlderReport.{OlderReport}
 use Rattle.model.specs.declared.Segment.{Segment}
 use Rattle.model.specs.declared.Table.{Table}
+use Rattle.model.specs.Codes.{isIn, theKeys}
 use Rattle.model.specs.Packet.{afterHeader, payload, headerRefusal, payloadRefusal, packetOf}
 use Rattle.model.specs.Plan.{cutFrom, cut, interim, reportsOfAll, markFirst, allOnWire, reports, reportAt, writeReport}
 use Rattle.model.specs.Segments.{rising}
@@ -62,7 +63,7 @@ use Rattle.model.proofs.Witness.{behind, _next_}
 
 -- opened so that the wire's timestamps wrap 768 units after the origin
 abbrev pub table : Table
-table = openedBoth 101 102 0x11223344 0xFFFF_FD00 .table
+table = openedBoth theKeys 101 102 0x11223344 0xFFFF_FD00 .table
 
 -- eleven reports: 300 with M, 400 three times; 300, 400 three times; 200, 200 with E twice
 abbrev pub long : Sent
@@ -130,7 +131,7 @@ each P a b e (List·Memᴰ·head q) = rw q a
 each P a b e (List·Memᴰ·tail (List·Memᴰ·head q)) = rw q b
 
 in-sizes : Sizes table sentEvents
-unfolding Apart segmentsInAll cutFrom
+unfolding isIn Apart segmentsInAll cutFrom
 in-sizes = record {
   ranges = each _ refl refl;
   apart = (lit≤ tt, tt);
@@ -147,11 +148,11 @@ fits = record {
 }
 
 empty : Empty table
-unfolding valid rising allValid segmentsFrom
+unfolding isIn valid rising allValid segmentsFrom
 empty = record { empty = refl; passes = refl }
 
 admitted : AdmittedGiven sentEvents table table given
-unfolding AdmittedGiven FairLabels sentArrival receiveRedundant receivingEach tableAfterReports wholeRefusal refusalOfBoth refusalForBoth reportsIn
+unfolding isIn AdmittedGiven FairLabels sentArrival receiveRedundant receivingEach tableAfterReports wholeRefusal refusalOfBoth refusalForBoth reportsIn
     ofType blocksRefusal blocks cutData lengths older olderWithin redundantPacketOf headersOf dataOf receive packetRefusal refusalFor hear
     hearRefusal unheard probes heardBy arrivalIn valid rising allValid segmentsFrom holds put headerRefusal afterHeader payload payloadRefusal
     writeReport packetOf reportAt reports allOnWire markFirst reportsOfAll interim cutFrom
@@ -191,7 +192,7 @@ unfolding labels
 brings = refl
 
 long-needed : NeededGiven table brought long
-unfolding cutFrom reportAt reports allOnWire markFirst reportsOfAll interim
+unfolding isIn cutFrom reportAt reports allOnWire markFirst reportsOfAll interim
 long-needed = record { first = mark; full = full; ended = (10, inr end, refl) }
   where
     mark : Mem (report long 1) brought
@@ -216,7 +217,7 @@ long-needed = record { first = mark; full = full; ended = (10, inr end, refl) }
     full g (List·Memᴰ·tail (List·Memᴰ·tail (List·Memᴰ·head e))) h = absurd (false≢true (sym h ∙ ap (λ (s : Segment). s .ended) e))
 
 short-needed : NeededGiven table brought short
-unfolding cutFrom reportAt reports allOnWire markFirst reportsOfAll interim
+unfolding isIn cutFrom reportAt reports allOnWire markFirst reportsOfAll interim
 short-needed = record { first = mark; full = full; ended = (3, inl end, refl) }
   where
     mark : Mem (report short 1) brought
@@ -249,7 +250,7 @@ lists = demand-3-redundant table sentEvents given delivered
 
 -- the list
 pub list-computed : events (afterReceipts table (receipts table given)) ≡ map asListed sentEvents
-unfolding afterReceipts receiveRedundant receivingEach tableAfterReports wholeRefusal refusalOfBoth refusalForBoth reportsIn
+unfolding isIn afterReceipts receiveRedundant receivingEach tableAfterReports wholeRefusal refusalOfBoth refusalForBoth reportsIn
     ofType blocksRefusal blocks cutData lengths older olderWithin redundantPacketOf headersOf dataOf receive packetRefusal refusalFor hear
     hearRefusal unheard probes heardBy arrivalIn valid rising allValid segmentsFrom holds put headerRefusal afterHeader payload payloadRefusal
     writeReport packetOf reportAt reports allOnWire markFirst reportsOfAll interim cutFrom units loudest lastEnded continuesNearest continuing
@@ -259,7 +260,7 @@ list-computed = refl
 -- The copy of report 1 does not stand in for it: without the plain packet the first press has no marked beginning.
 pub copy-unmarked : events (afterReceipts table (receipts table (take 7 given ++ drop 8 given)))
     ≡ record { code = 5; start = 100; length = 1000; volume = 10; began = false; ended = true } ∷ asListed short ∷ []
-unfolding afterReceipts receiveRedundant receivingEach tableAfterReports wholeRefusal refusalOfBoth refusalForBoth reportsIn
+unfolding isIn afterReceipts receiveRedundant receivingEach tableAfterReports wholeRefusal refusalOfBoth refusalForBoth reportsIn
     ofType blocksRefusal blocks cutData lengths older olderWithin redundantPacketOf headersOf dataOf receive packetRefusal refusalFor hear
     hearRefusal unheard probes heardBy arrivalIn valid rising allValid segmentsFrom holds put headerRefusal afterHeader payload payloadRefusal
     writeReport packetOf reportAt reports allOnWire markFirst reportsOfAll interim cutFrom units loudest lastEnded continuesNearest continuing
@@ -268,7 +269,7 @@ copy-unmarked = refl
 
 -- of the 16 labels four are `other`: 12 reports are taken
 pub arrivals-computed : length (arrivalsOf table (receipts table given)) ≡ 12
-unfolding arrivalsOf takenOf receiveRedundant receivingEach tableAfterReports wholeRefusal refusalOfBoth refusalForBoth reportsIn
+unfolding isIn arrivalsOf takenOf receiveRedundant receivingEach tableAfterReports wholeRefusal refusalOfBoth refusalForBoth reportsIn
     ofType blocksRefusal blocks cutData lengths older olderWithin redundantPacketOf headersOf dataOf receive packetRefusal refusalFor hear
     hearRefusal unheard probes heardBy arrivalIn valid rising allValid segmentsFrom holds put headerRefusal afterHeader payload payloadRefusal
     writeReport packetOf reportAt reports allOnWire markFirst reportsOfAll interim cutFrom
@@ -276,7 +277,7 @@ arrivals-computed = refl
 
 -- the entries of the call with four kinds of blocks, as the first on an empty table: new, refused with 8, new after one look
 pub entries-computed : receiveRedundant table mixed (9 ∷ 9 ∷ 9 ∷ 9 ∷ []) .entries ≡ 256 ∷ 8 ∷ (65536 + 256) ∷ 9 ∷ []
-unfolding receiveRedundant receivingEach answersTo tableAfterReports wholeRefusal refusalOfBoth refusalForBoth reportsIn ofType
+unfolding isIn receiveRedundant receivingEach answersTo tableAfterReports wholeRefusal refusalOfBoth refusalForBoth reportsIn ofType
     blocksRefusal blocks cutData lengths older olderWithin hear hearRefusal unheard probes heardBy arrivalIn valid rising allValid segmentsFrom
     holds put headerRefusal afterHeader payload payloadRefusal middle isSmaller kept searching
 entries-computed = refl

@@ -67,11 +67,11 @@ use Rattle.model.proofs.Basics.{Mem, map-map}
 abbrev pub PayloadFits : Arrival → Type 0
 PayloadFits a = BytesFit (a .payload)
 
-pub heard-valid : (t : Table) (a : Arrival) → PayloadFits a → Searched t a → validSegment (heardBy t a) ≡ true
+pub heard-valid : (t : Table) (a : Arrival) → PayloadFits a → Searched t a → validSegment (t .head .codes) (heardBy t a) ≡ true
 unfolding heardBy
 heard-valid t a f k =
-    let q = payload-in-range (a .payload) f (k .payload) in
-    valid-if (heardBy t a) (record { offset = k .near; code = q .0; some = q .1; duration = q .2; volume = q .3 })
+    let q = payload-in-range (t .head .codes) (a .payload) f (k .payload) in
+    valid-if (t .head .codes) (heardBy t a) (record { offset = k .near; code = q .0; some = q .1; duration = q .2; volume = q .3 })
 
 pub taken-valid : (t : Table) (a : Arrival) → valid t ≡ true → PayloadFits a → Taken t a → valid (taking t (heardBy t a)) ≡ true
 taken-valid t a s f k = taking-valid t (heardBy t a) s (heard-valid t a f (k .searched)) (room t (heardBy t a) s (k .room))
@@ -127,7 +127,7 @@ back a b r x m =
 pub step-refused : (t u : Table) (a : Arrival) (rs : List Segment) → Reached t rs u → refuses (hear u a .answer) ≡ true → Reached t rs (hear u a .table)
 step-refused t u a rs k e = rw (refused-leaves u a e) k
 
-derived-taking : (u : Table) (r : Segment) (rs : List Segment) → valid u ≡ true → validSegment r ≡ true → Derived rs (held u) → Derived (r ∷ rs) (held (taking u r))
+derived-taking : (u : Table) (r : Segment) (rs : List Segment) → valid u ≡ true → validSegment (u .head .codes) r ≡ true → Derived rs (held u) → Derived (r ∷ rs) (held (taking u r))
 derived-taking u r rs s v d = rw (held-taking u r s v) (derived-put r rs (held u) d)
 
 pub step-taken : (t u : Table) (a : Arrival) (rs : List Segment) → Reached t rs u → PayloadFits a → refuses (hear u a .answer) ≡ false

@@ -8,14 +8,15 @@ use native.Mathlib.Omega.{arith}
 use lib.Dec.{leb}
 use lib.ListN.{length, getD, replicate}
 use borrow.Author.Tests.{leb-true, le-leb, le-ltb, ne-eqb}
+use Rattle.model.specs.declared.Codes.{Codes}
 use Rattle.model.specs.declared.Report.{Report}
 use Rattle.model.specs.declared.Plan.{Plan}
 use Rattle.model.specs.declared.Segment.{Segment}
 use Rattle.model.specs.declared.Table.{Table}
-use Rattle.model.specs.Limits.{isCode}
+use Rattle.model.specs.Codes.{isIn}
 use Rattle.model.specs.Refusals.{none, noReport}
 use Rattle.model.specs.Packet.{reportIn, payloadRefusal, packetOf, reportInRange, ssrc}
-use Rattle.model.specs.Plan.{fullSegments, cutFrom, cut, sayings, onWire, reports, reportAt, longest, planInRange, writeReport}
+use Rattle.model.specs.Plan.{fullSegments, cutFrom, cut, sayings, onWire, reports, reportAt, longest, lengthsInRange, planInRange, writeReport}
 use Rattle.model.specs.Receive.{offset, heardBy, arrivalIn}
 use Rattle.model.specs.Sizes.{Sent, end, planOf, BytesFit, ReportFits}
 use Rattle.model.specs.Demands.{sent, bytesOf}
@@ -28,35 +29,39 @@ use Rattle.model.specs.Search.{noSegment}
 use Rattle.model.proofs.Basics.{Mem, mem-map, and-then, and-both}
 
 -- the ranges of a plan, one by one
-pub record PlanRanges (p : Plan) : Type 0 where
-  pub type : leb (p .«payload_type») 127 ≡ true
-  pub code : isCode (p .code) ≡ true
-  pub volume : p .volume ≤ 63
+pub record LengthRanges (p : Plan) : Type 0 where
   pub wide : 1 ≤ p .«segment_size»
   pub narrow : p .«segment_size» ≤ 65535
   pub some : 1 ≤ p .length
   pub most : p .length ≤ longest p
   pub often : 1 ≤ p .period
 
-pub plan-ranges : (p : Plan) → planInRange p ≡ true → PlanRanges p
-plan-ranges p v =
+pub length-ranges : (p : Plan) → lengthsInRange p ≡ true → LengthRanges p
+length-ranges p v =
     let a = and-then _ _ v in
+    let size = and-then _ _ (a .0) in
     let b = and-then _ _ (a .1) in
-    let c = and-then _ _ (b .1) in
-    let d = and-then _ _ (c .1) in
-    let size = and-then _ _ (d .0) in
-    let e = and-then _ _ (d .1) in
-    let length = and-then _ _ (e .0) in
+    let length = and-then _ _ (b .0) in
     record {
-      type = a .0;
-      code = b .0;
-      volume = leb-true _ _ (c .0);
       wide = leb-true _ _ (size .0);
       narrow = leb-true _ _ (size .1);
       some = leb-true _ _ (length .0);
       most = leb-true _ _ (length .1);
-      often = leb-true _ _ (and-then _ _ (e .1) .0);
+      often = leb-true _ _ (and-then _ _ (b .1) .0);
     }
+
+pub record PlanRanges (codes : Codes) (p : Plan) : Type 0 where
+  pub type : leb (p .«payload_type») 127 ≡ true
+  pub code : isIn codes (p .code) ≡ true
+  pub volume : p .volume ≤ 63
+  pub lengths : LengthRanges p
+
+pub plan-ranges : (codes : Codes) (p : Plan) → planInRange codes p ≡ true → PlanRanges codes p
+plan-ranges codes p v =
+    let a = and-then _ _ v in
+    let b = and-then _ _ (a .1) in
+    let c = and-then _ _ (b .1) in
+    record { type = a .0; code = b .0; volume = leb-true _ _ (c .0); lengths = length-ranges p (c .1) }
 
 -- REPORT K OF A PLAN
 
@@ -79,28 +84,29 @@ module _ (p : Plan) (k : ℕ) (low : 1 ≤ k) (high : k ≤ length (reports p)) 
   pub marked-is-1 : reportAt p k .marker ≡ true → k ≡ 1
   marked-is-1 m = omega (arith, marked-first p noSegment (k - 1) within (sym (ap (λ (r : Report). r .marker) report-is) ∙ m))
 
-  pub saying-says : PlanRanges p → (g : Segment) × Mem g (cut p) × Says g (sayingAt p k)
+  pub saying-says : LengthRanges p → (g : Segment) × Mem g (cut p) × Says g (sayingAt p k)
   saying-says r = sayings-say p (r .wide) (r .often) (sayingAt p k) (mem-at (sayings p) (k - 1) noSegment within)
 
-  pub report-in-range : PlanRanges p → reportInRange (reportAt p k) ≡ true
+  pub report-in-range : {codes : Codes} → PlanRanges codes p → reportInRange codes (reportAt p k) ≡ true
   unfolding reportInRange
-  report-in-range r =
-      let q = saying-says r in
+  report-in-range {codes} r =
+      let n = r .lengths in
+      let q = saying-says n in
       let s = q .2 in
-      let c = cut-place p (r .wide) (fullSegments p) 0 true (q .0) (q .1) in
-      let w = cut-within p (r .wide) (fullSegments p) 0 true (q .0) (q .1) in
-      let known : isCode (sayingAt p k .code) ≡ true = rw (s .code ∙ c .code) (r .code) in
+      let c = cut-place p (n .wide) (fullSegments p) 0 true (q .0) (q .1) in
+      let w = cut-within p (n .wide) (fullSegments p) 0 true (q .0) (q .1) in
+      let known : isIn codes (sayingAt p k .code) ≡ true = rw (s .code ∙ c .code) (r .code) in
       rw report-is
       (and-both (r .type) (and-both known (and-both (le-leb (sayingAt p k .volume) 63 (omega (arith, s .volume, c .volume, r .volume)))
-      (and-both (le-leb 1 (sayingAt p k .duration) (s .some)) (le-leb (sayingAt p k .duration) 65535 (omega (arith, s .duration, w, r .narrow)))))))
+      (and-both (le-leb 1 (sayingAt p k .duration) (s .some)) (le-leb (sayingAt p k .duration) 65535 (omega (arith, s .duration, w, n .narrow)))))))
 
   pub report-fits : p .ssrc < 0x1_0000_0000 → ReportFits (reportAt p k)
   report-fits h = rw report-is (record { sequence = omega arith; timestamp = omega arith; ssrc = h })
 
   -- the sender's call gives its 16 bytes
-  pub planned-bytes : planInRange p ≡ true → writeReport p k (replicate 16 0) .output ≡ packetOf (reportAt p k)
+  pub planned-bytes : (codes : Codes) → planInRange codes p ≡ true → writeReport codes p k (replicate 16 0) .output ≡ packetOf (reportAt p k)
   unfolding writeReport
-  planned-bytes r = rw (r, ne-eqb k 0 (λ e. omega arith), le-ltb (length (reports p)) k high) (append-nil _)
+  planned-bytes codes r = rw (r, ne-eqb k 0 (λ e. omega arith), le-ltb (length (reports p)) k high) (append-nil _)
 
 -- a plan has a report 1, and it carries M
 pub some-report : (p : Plan) → 1 ≤ length (reports p)
@@ -140,49 +146,49 @@ sent-later t e =
 pub later-mem : (t : Table) (e : Sent) (g : Segment) → Mem g (cut (planOf t e)) → Mem (later (e .start) g) (segmentsSent (planOf t) e)
 later-mem t e g m = rw (sent-later t e) at (mem-map (later (e .start)) (cut (planOf t e)) g m)
 
-module _ (t : Table) (e : Sent) (range : planInRange (planOf t e) ≡ true) (k : ℕ) (low : 1 ≤ k) (high : k ≤ length (reports (planOf t e))) where
+module _ (t : Table) (e : Sent) (range : planInRange (t .head .codes) (planOf t e) ≡ true) (k : ℕ) (low : 1 ≤ k) (high : k ≤ length (reports (planOf t e))) where
   pub said-says : (g : Segment) × Mem g (segmentsSent (planOf t) e) × Says g (said t e k)
   said-says =
-      let q = saying-says (planOf t e) k low high (plan-ranges (planOf t e) range) in
+      let q = saying-says (planOf t e) k low high (plan-ranges (t .head .codes) (planOf t e) range .lengths) in
       (later (e .start) (q .0), later-mem t e (q .0) (q .1), says-later (e .start) (q .2))
 
   -- it lies before the event's end
   pub said-before : said t e k .offset < end e
   said-before =
-      let r = plan-ranges (planOf t e) range in
+      let r = plan-ranges (t .head .codes) (planOf t e) range .lengths in
       let q = saying-says (planOf t e) k low high r in
       let c = cut-place (planOf t e) (r .wide) (fullSegments (planOf t e)) 0 true (q .0) (q .1) in
       omega (arith, q .2 .offset, c .to, c .long, cut-units (planOf t e) (r .some))
 
   pub sent-bytes : bytesOf t (sent e k) ≡ packetOf (reportAt (planOf t e) k)
-  sent-bytes = planned-bytes (planOf t e) k low high range
+  sent-bytes = planned-bytes (planOf t e) k low high (t .head .codes) range
 
-  pub sent-in-range : reportInRange (reportAt (planOf t e) k) ≡ true
-  sent-in-range = report-in-range (planOf t e) k low high (plan-ranges (planOf t e) range)
+  pub sent-in-range : reportInRange (t .head .codes) (reportAt (planOf t e) k) ≡ true
+  sent-in-range = report-in-range (planOf t e) k low high (plan-ranges (t .head .codes) (planOf t e) range)
 
   module _ (fits : t .head .ssrc < 0x1_0000_0000) where
     pub sent-report : reportIn (packetOf (reportAt (planOf t e) k)) ≡ onWire (planOf t e) (k - 1) (sayingAt (planOf t e) k)
-    sent-report = packet-report (reportAt (planOf t e) k) (report-fits (planOf t e) k low high fits) sent-in-range ∙ report-is (planOf t e) k low high
+    sent-report = packet-report (t .head .codes) (reportAt (planOf t e) k) (report-fits (planOf t e) k low high fits) sent-in-range ∙ report-is (planOf t e) k low high
 
     -- its report arrives by its own timestamp, marker and payload
     pub sent-arrives : arrivalIn (packetOf (reportAt (planOf t e) k)) ≡ sentArrival t e k
     unfolding sentArrival
-    sent-arrives = packet-arrival (reportAt (planOf t e) k) (report-fits (planOf t e) k low high fits) sent-in-range
+    sent-arrives = packet-arrival (t .head .codes) (reportAt (planOf t e) k) (report-fits (planOf t e) k low high fits) sent-in-range
 
-  abbrev in-range : Ranges (reportAt (planOf t e) k)
-  in-range = ranges (reportAt (planOf t e) k) sent-in-range
+  abbrev in-range : Ranges (t .head .codes) (reportAt (planOf t e) k)
+  in-range = ranges (t .head .codes) (reportAt (planOf t e) k) sent-in-range
 
-  pub sent-passes : payloadRefusal (sentArrival t e k .payload) ≡ none
+  pub sent-passes : payloadRefusal (t .head .codes) (sentArrival t e k .payload) ≡ none
   unfolding sentArrival
   sent-passes =
-      payload-passes (reportAt (planOf t e) k .code) (reportAt (planOf t e) k .ended) (reportAt (planOf t e) k .volume)
+      payload-passes (t .head .codes) (reportAt (planOf t e) k .code) (reportAt (planOf t e) k .ended) (reportAt (planOf t e) k .volume)
       (reportAt (planOf t e) k .duration) (in-range .code) (in-range .some) (in-range .most)
 
   pub sent-payload-fits : BytesFit (sentArrival t e k .payload)
   unfolding sentArrival
   sent-payload-fits =
       payload-bytes-fit (reportAt (planOf t e) k .code) (reportAt (planOf t e) k .ended) (reportAt (planOf t e) k .volume)
-      (reportAt (planOf t e) k .duration) (omega (arith, in-range .code)) (omega (arith, in-range .volume))
+      (reportAt (planOf t e) k .duration) (in-range .byte) (omega (arith, in-range .volume))
 
   -- from the table's origin it is heard as it was said
   pub heard-as-said : t .head .origin < 0x1_0000_0000 → end e < 0x8000_0000 → heardBy t (sentArrival t e k) ≡ said t e k

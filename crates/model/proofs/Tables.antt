@@ -11,9 +11,10 @@ use native.Mathlib.Omega.{arith}
 use lib.Dec.{eqb}
 use lib.ListN.{length, getD, drop, length-map, List·getD-append}
 use borrow.Author.Tests.{ltb-true, leb-true, eqb-false, lt-ltb, le-leb}
+use Rattle.model.specs.declared.Codes.{Codes}
 use Rattle.model.specs.declared.Segment.{Segment}
 use Rattle.model.specs.declared.Table.{Table}
-use Rattle.model.specs.Limits.{isCode}
+use Rattle.model.specs.Codes.{isIn}
 use Rattle.model.specs.Segments.{before, samePair, rising, merge}
 use Rattle.model.specs.Table.{keyOf, heardOf, segmentAt, segmentsFrom, held, place, storing, validSegment, allValid, validTypes, valid, holds, noRoom, put, taking}
 use Rattle.model.proofs.Order.{Alike, Compared, compared, ≺-not-alike, same-then, below-cons, Rising, rises, rises-if}
@@ -21,6 +22,7 @@ use Rattle.model.proofs.Segments.{put-rising}
 use Rattle.model.proofs.Numbers.{segment-back}
 use Rattle.model.specs.Search.{noSegment, entry}
 use Rattle.model.proofs.Basics.{Mem, and-then, and-both}
+use Rattle.model.proofs.Sets.{in-below}
 
 or-false-then : (a b : Bool) → (a || b) ≡ false → (a ≡ false) × (b ≡ false)
 or-false-then true b e = absurd (false≢true (sym e))
@@ -28,23 +30,23 @@ or-false-then false b e = (refl, e)
 
 -- ONE SEGMENT'S TESTS
 
-pub record ValidSegment (s : Segment) : Type 0 where
+pub record ValidSegment (codes : Codes) (s : Segment) : Type 0 where
   pub offset : s .offset < 0x8000_0000
-  pub code : isCode (s .code) ≡ true
+  pub code : isIn codes (s .code) ≡ true
   pub some : 1 ≤ s .duration
   pub duration : s .duration ≤ 65535
   pub volume : s .volume ≤ 63
 
-pub valid-then : (s : Segment) → validSegment s ≡ true → ValidSegment s
-valid-then s v =
+pub valid-then : (codes : Codes) (s : Segment) → validSegment codes s ≡ true → ValidSegment codes s
+valid-then codes s v =
     let a = and-then _ _ v in
     let b = and-then _ _ (a .1) in
     let c = and-then _ _ (b .1) in
     let d = and-then _ _ (c .0) in
     record { offset = ltb-true _ _ (a .0); code = b .0; some = leb-true _ _ (d .0); duration = leb-true _ _ (d .1); volume = leb-true _ _ (c .1) }
 
-pub valid-if : (s : Segment) → ValidSegment s → validSegment s ≡ true
-valid-if s v =
+pub valid-if : (codes : Codes) (s : Segment) → ValidSegment codes s → validSegment codes s ≡ true
+valid-if codes s v =
     and-both (lt-ltb _ _ (v .offset)) (and-both (v .code) (and-both (and-both (le-leb _ _ (v .some)) (le-leb _ _ (v .duration))) (le-leb _ _ (v .volume))))
 
 -- WHAT IS HELD
@@ -118,47 +120,48 @@ put-known r (s ∷ ts) g h = go (before r s) (samePair r s) (compared r s) h (pu
 
 -- THE TESTS STAY PASSED
 
-merge-valid : (r s : Segment) → validSegment r ≡ true → validSegment s ≡ true → validSegment (merge r s) ≡ true
-merge-valid r s p q =
-    let a = valid-then r p in
-    let b = valid-then s q in
-    valid-if (merge r s) (record { offset = b .offset; code = b .code; some = omega arith; duration = omega arith; volume = omega arith })
+merge-valid : (codes : Codes) (r s : Segment) → validSegment codes r ≡ true → validSegment codes s ≡ true → validSegment codes (merge r s) ≡ true
+merge-valid codes r s p q =
+    let a = valid-then codes r p in
+    let b = valid-then codes s q in
+    valid-if codes (merge r s) (record { offset = b .offset; code = b .code; some = omega arith; duration = omega arith; volume = omega arith })
 
-put-valid : (r : Segment) (l : List Segment) → validSegment r ≡ true → allValid l ≡ true → allValid (put r l) ≡ true
+put-valid : (codes : Codes) (r : Segment) (l : List Segment) → validSegment codes r ≡ true → allValid codes l ≡ true → allValid codes (put r l) ≡ true
 unfolding put allValid
-put-valid r [] p h = rw p
-put-valid r (s ∷ ts) p h = go (before r s) (samePair r s) (put-valid r ts p (k .1))
+put-valid codes r [] p h = rw p
+put-valid codes r (s ∷ ts) p h = go (before r s) (samePair r s) (put-valid codes r ts p (k .1))
   where
-    k : (validSegment s ≡ true) × (allValid ts ≡ true)
-    k = and-then (validSegment s) (allValid ts) h
+    k : (validSegment codes s ≡ true) × (allValid codes ts ≡ true)
+    k = and-then (validSegment codes s) (allValid codes ts) h
 
-    go : (a b : Bool) → allValid (put r ts) ≡ true → allValid (cond a (r ∷ s ∷ ts) (cond b (merge r s ∷ ts) (s ∷ put r ts))) ≡ true
+    go : (a b : Bool) → allValid codes (put r ts) ≡ true → allValid codes (cond a (r ∷ s ∷ ts) (cond b (merge r s ∷ ts) (s ∷ put r ts))) ≡ true
     go true b ih = and-both p h
-    go false true ih = and-both (merge-valid r s p (k .0)) (k .1)
+    go false true ih = and-both (merge-valid codes r s p (k .0)) (k .1)
     go false false ih = and-both (k .0) ih
 
-valid-at : (l : List Segment) → allValid l ≡ true → (i : ℕ) → i < length l → ValidSegment (entry l i)
+valid-at : (codes : Codes) (l : List Segment) → allValid codes l ≡ true → (i : ℕ) → i < length l → ValidSegment codes (entry l i)
 unfolding allValid
-valid-at [] v i h = absurd (omega arith)
-valid-at (s ∷ ts) v zero h = valid-then s (and-then (validSegment s) (allValid ts) v .0)
-valid-at (s ∷ ts) v (suc i) h = valid-at ts (and-then (validSegment s) (allValid ts) v .1) i (omega arith)
+valid-at codes [] v i h = absurd (omega arith)
+valid-at codes (s ∷ ts) v zero h = valid-then codes s (and-then (validSegment codes s) (allValid codes ts) v .0)
+valid-at codes (s ∷ ts) v (suc i) h = valid-at codes ts (and-then (validSegment codes s) (allValid codes ts) v .1) i (omega arith)
 
 -- the segments at places are within their ranges exactly if each is
-module _ (keys heard : List ℕ) where
-  pub valid-from : (n i : ℕ) → allValid (segmentsFrom keys heard i n) ≡ true → (k : ℕ) → i ≤ k → k < i + n
-      → validSegment (segmentAt keys heard k) ≡ true
+module _ (codes : Codes) (keys heard : List ℕ) where
+  pub valid-from : (n i : ℕ) → allValid codes (segmentsFrom keys heard i n) ≡ true → (k : ℕ) → i ≤ k → k < i + n
+      → validSegment codes (segmentAt keys heard k) ≡ true
   unfolding segmentsFrom allValid
   valid-from zero i v k a b = absurd (omega arith)
   valid-from (suc n) i v k a b =
-      let q = and-then (validSegment (segmentAt keys heard i)) (allValid (segmentsFrom keys heard (suc i) n)) v in
+      let q = and-then (validSegment codes (segmentAt keys heard i)) (allValid codes (segmentsFrom keys heard (suc i) n)) v in
       ⊎-elim (λ e. rw (← e) (q .0)) (λ l. valid-from n (suc i) (q .1) k (omega arith) (omega arith)) (eq-or-lt-of-le a)
 
-  pub all-valid-from : (n i : ℕ) → ((k : ℕ) → i ≤ k → k < i + n → validSegment (segmentAt keys heard k) ≡ true)
-      → allValid (segmentsFrom keys heard i n) ≡ true
+  pub all-valid-from : (n i : ℕ) → ((k : ℕ) → i ≤ k → k < i + n → validSegment codes (segmentAt keys heard k) ≡ true)
+      → allValid codes (segmentsFrom keys heard i n) ≡ true
   unfolding segmentsFrom allValid
   all-valid-from zero i f = refl
   all-valid-from (suc n) i f = and-both (f i (omega arith) (omega arith)) (all-valid-from n (suc i) (λ k a b. f k (omega arith) (omega arith)))
 
+module _ (keys heard : List ℕ) where
   pub rising-from : (n i : ℕ) → ((k : ℕ) → i ≤ k → k + 1 < i + n → before (segmentAt keys heard k) (segmentAt keys heard (k + 1)) ≡ true)
       → rising (segmentsFrom keys heard i n) ≡ true
   unfolding segmentsFrom rising
@@ -168,20 +171,20 @@ module _ (keys heard : List ℕ) where
       and-both (rw (add-one i) at (f i (omega arith) (omega arith))) (rising-from (suc n) (suc i) (λ k a b. f k (omega arith) (omega arith)))
 
 -- a table that stores segments within their ranges holds them
-pub held-storing : (l : List Segment) (t : Table) → allValid l ≡ true → held (storing l t) ≡ l
-held-storing l t v = from-places (storing l t .keys) (storing l t .heard) l 0 (λ k i e h. let q : k ≡ i = omega arith in rw q (stands i h))
+pub held-storing : (codes : Codes) (l : List Segment) (t : Table) → allValid codes l ≡ true → held (storing l t) ≡ l
+held-storing codes l t v = from-places (storing l t .keys) (storing l t .heard) l 0 (λ k i e h. let q : k ≡ i = omega arith in rw q (stands i h))
   where
     stands : (i : ℕ) → i < length l → segmentAt (storing l t .keys) (storing l t .heard) i ≡ entry l i
     stands i h =
-        let w = valid-at l v i h in
+        let w = valid-at codes l v i h in
         rw (in-column keyOf l (t .keys) i h, in-column heardOf l (t .heard) i h)
-        (segment-back (entry l i) (omega (arith, leb-true (entry l i .code) 15 (w .code))) (omega (arith, w .duration)))
+        (segment-back (entry l i) (in-below codes (entry l i .code) (w .code)) (omega (arith, w .duration)))
 
 -- the tests, one by one
 pub record Passed (t : Table) : Type 0 where
   pub few : t .head .count ≤ 128
   pub rises : Rising (held t)
-  pub each : allValid (held t) ≡ true
+  pub each : allValid (t .head .codes) (held t) ≡ true
   pub types : validTypes (t .head) ≡ true
 
 pub tests-passed : (t : Table) → valid t ≡ true → Passed t
@@ -196,8 +199,8 @@ pub passes-if : (t : Table) → Passed t → valid t ≡ true
 unfolding valid
 passes-if t p = and-both (le-leb (t .head .count) 128 (p .few)) (and-both (rises-if (held t) (p .rises)) (and-both (p .each) (p .types)))
 
-pub held-taking : (t : Table) (r : Segment) → valid t ≡ true → validSegment r ≡ true → held (taking t r) ≡ put r (held t)
-held-taking t r s v = held-storing (put r (held t)) t (put-valid r (held t) v (tests-passed t s .each))
+pub held-taking : (t : Table) (r : Segment) → valid t ≡ true → validSegment (t .head .codes) r ≡ true → held (taking t r) ≡ put r (held t)
+held-taking t r s v = held-storing (t .head .codes) (put r (held t)) t (put-valid (t .head .codes) r (held t) v (tests-passed t s .each))
 
 -- room for the report: fewer than 128 are held, or its pair is one of them
 pub room : (t : Table) (r : Segment) → valid t ≡ true → noRoom t r ≡ false → length (put r (held t)) ≤ 128
@@ -214,11 +217,11 @@ room t r s h = go (holds r (held t)) refl (eqb (t .head .count) 128) refl h
     go false e true f h = absurd (false≢true (sym h))
     go false e false f h = omega (arith, put-new r (held t) e, long, p .few, eqb-false (t .head .count) 128 f)
 
-pub taking-valid : (t : Table) (r : Segment) → valid t ≡ true → validSegment r ≡ true → length (put r (held t)) ≤ 128 → valid (taking t r) ≡ true
+pub taking-valid : (t : Table) (r : Segment) → valid t ≡ true → validSegment (t .head .codes) r ≡ true → length (put r (held t)) ≤ 128 → valid (taking t r) ≡ true
 taking-valid t r s v h = passes-if (taking t r) (record {
   few = h;
   rises = rw (held-taking t r s v) (put-rising r (held t) (p .rises));
-  each = rw (held-taking t r s v) (put-valid r (held t) v (p .each));
+  each = rw (held-taking t r s v) (put-valid (t .head .codes) r (held t) v (p .each));
   types = p .types;
 })
   where

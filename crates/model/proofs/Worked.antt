@@ -12,6 +12,7 @@ use Rattle.model.specs.declared.Event.{Event}
 use Rattle.model.specs.declared.Table.{Table}
 use Rattle.model.specs.declared.Received.{Received}
 use Rattle.model.specs.declared.Lookup.{Lookup}
+use Rattle.model.specs.Codes.{isIn, theKeys}
 use Rattle.model.specs.Refusals.{Told, answered, refusedBy}
 use Rattle.model.specs.Packet.{afterHeader, payload, headerRefusal, payloadRefusal, read, packetOf}
 use Rattle.model.specs.Plan.{segment}
@@ -84,8 +85,8 @@ packets =
     ∷ (header 0xB2 ++ (replicate 8 9 ++ ((0 ∷ 0 ∷ 0 ∷ 1 ∷ 9 ∷ 9 ∷ 9 ∷ 9 ∷ []) ++ (good ++ (9 ∷ 9 ∷ 3 ∷ [])))), answered report)
     ∷ []
 
-pub packets-read : map (λ row. read (row .0)) packets ≡ map (λ row. row .1) packets
-unfolding read headerRefusal afterHeader payload payloadRefusal
+pub packets-read : map (λ row. read theKeys (row .0)) packets ≡ map (λ row. row .1) packets
+unfolding isIn read headerRefusal afterHeader payload payloadRefusal
 packets-read = refl
 
 -- payloads of 0 to 16 bytes
@@ -94,15 +95,15 @@ lengths =
     (0, 7) ∷ (1, 7) ∷ (2, 7) ∷ (3, 7) ∷ (4, 0) ∷ (5, 7) ∷ (6, 7) ∷ (7, 7) ∷ (8, 17) ∷ (9, 7) ∷ (10, 7) ∷ (11, 7) ∷ (12, 17) ∷ (13, 7) ∷ (14, 7) ∷ (15, 7)
     ∷ (16, 17) ∷ []
 
-pub lengths-told : map (λ row. payloadRefusal (replicate (row .0) 1)) lengths ≡ map (λ row. row .1) lengths
-unfolding payloadRefusal
+pub lengths-told : map (λ row. payloadRefusal theKeys (replicate (row .0) 1)) lengths ≡ map (λ row. row .1) lengths
+unfolding isIn payloadRefusal
 lengths-told = refl
 
 -- THE RECEIVING CALL
 
 -- the refusals of an empty table, and of one whose payload type fails the tests
 abbrev table : Table
-table = opened 101 7 16 .table
+table = opened theKeys 101 7 16 .table
 
 abbrev at : ℕ → List ℕ
 at timestamp = packetOf (record {
@@ -123,16 +124,16 @@ calls =
     ∷ ((table, at 15), 10)  -- offset 2^32 - 1
     ∷ ((table, at (16 + 0x7FFF_FFFF)), 0)  -- offset 2^31 - 1
     ∷ ((table, at (16 + 0x8000_0000)), 10)  -- offset 2^31
-    ∷ ((opened 100 7 16 .table, header 0x80 ++ (5 ∷ 0 ∷ 0 ∷ [])), 5)  -- 5 before 6 and 7
-    ∷ ((opened 101 8 16 .table, header 0x80 ++ (5 ∷ 0 ∷ 0 ∷ [])), 6)  -- 6 before 7
-    ∷ ((opened 101 8 16 .table, header 0x80 ++ (good ++ good)), 6)  -- 6 before 17
+    ∷ ((opened theKeys 100 7 16 .table, header 0x80 ++ (5 ∷ 0 ∷ 0 ∷ [])), 5)  -- 5 before 6 and 7
+    ∷ ((opened theKeys 101 8 16 .table, header 0x80 ++ (5 ∷ 0 ∷ 0 ∷ [])), 6)  -- 6 before 7
+    ∷ ((opened theKeys 101 8 16 .table, header 0x80 ++ (good ++ good)), 6)  -- 6 before 17
     ∷ ((table, header 0x80 ++ (good ++ good)), 17)
-    ∷ ((opened 100 7 16 .table, header 0xA0), 4)  -- 4 before 5
-    ∷ ((emptyTable (oneType 128 7 16), []), 16)  -- 16 before 1
+    ∷ ((opened theKeys 100 7 16 .table, header 0xA0), 4)  -- 4 before 5
+    ∷ ((emptyTable (oneType theKeys 128 7 16), []), 16)  -- 16 before 1
     ∷ []
 
 pub calls-answer : map (λ row. receive (row .0 .0) (row .0 .1) .answer .refusal) calls ≡ map (λ row. row .1) calls
-unfolding packetOf receive packetRefusal refusalFor hear hearRefusal unheard probes heardBy arrivalIn valid rising allValid segmentsFrom holds headerRefusal afterHeader payload payloadRefusal
+unfolding isIn packetOf receive packetRefusal refusalFor hear hearRefusal unheard probes heardBy arrivalIn valid rising allValid segmentsFrom holds headerRefusal afterHeader payload payloadRefusal
 calls-answer = refl
 
 -- THE COLUMNS
@@ -140,7 +141,7 @@ calls-answer = refl
 -- three places, of which the first holds offset 100, code 5, duration 400, volume 10
 abbrev one-held : Table
 one-held = record {
-  head = record { «payload_type» = 101; «both_types» = 0; «redundant_type» = 0; ssrc = 7; origin = 16; count = 1 };
+  head = record { «payload_type» = 101; «both_types» = 0; «redundant_type» = 0; ssrc = 7; origin = 16; codes = theKeys; count = 1 };
   keys = 0x6405 ∷ 99 ∷ 98 ∷ [];
   heard = 0x28_0190 ∷ 97 ∷ 96 ∷ [];
 }
@@ -159,7 +160,7 @@ columns =
 
 pub columns-after : map (λ row. (receive one-held (row .0) .answer, (receive one-held (row .0) .table .keys, receive one-held (row .0) .table .heard))) columns
     ≡ map (λ row. row .1) columns
-unfolding packetOf receive packetRefusal refusalFor hear hearRefusal unheard probes heardBy arrivalIn valid rising allValid segmentsFrom holds put headerRefusal afterHeader payload payloadRefusal middle isSmaller kept searching
+unfolding isIn packetOf receive packetRefusal refusalFor hear hearRefusal unheard probes heardBy arrivalIn valid rising allValid segmentsFrom holds put headerRefusal afterHeader payload payloadRefusal middle isSmaller kept searching
 columns-after = refl
 
 -- THE SEARCH
@@ -223,7 +224,7 @@ keys-from k (suc n) = k ∷ keys-from (k + 512) n
 -- 128 segments of code 5, at offsets 1, 3, .. 255
 abbrev full : Table
 full = record {
-  head = record { «payload_type» = 101; «both_types» = 0; «redundant_type» = 0; ssrc = 7; origin = 16; count = 128 };
+  head = record { «payload_type» = 101; «both_types» = 0; «redundant_type» = 0; ssrc = 7; origin = 16; codes = theKeys; count = 128 };
   keys = keys-from 261 128;
   heard = replicate 128 0x28_0190;
 }
@@ -241,7 +242,7 @@ full-calls =
     ∷ []
 
 pub full-answers : map (λ row. receive full (row .0) .answer) full-calls ≡ map (λ row. row .1) full-calls
-unfolding packetOf receive packetRefusal refusalFor hear hearRefusal unheard probes heardBy arrivalIn valid rising allValid segmentsFrom holds put headerRefusal afterHeader payload payloadRefusal middle isSmaller kept searching
+unfolding isIn packetOf receive packetRefusal refusalFor hear hearRefusal unheard probes heardBy arrivalIn valid rising allValid segmentsFrom holds put headerRefusal afterHeader payload payloadRefusal middle isSmaller kept searching
 full-answers = refl
 
 -- EVENTS

@@ -21,10 +21,12 @@ use borrow.Author.Tests.{leb-true, le-ltb, eq-eqb, ne-eqb, eqb-false, not-true, 
 use lib.Dec.{leb, eqb}
 use lib.ListN.{length, drop, length-append, length-map}
 use lib.Seq.{take-at}
+use Rattle.model.specs.declared.Codes.{Codes}
 use Rattle.model.specs.declared.Report.{Report}
 use Rattle.model.specs.declared.OlderReport.{OlderReport}
 use Rattle.model.specs.declared.Head.{Head}
 use Rattle.model.specs.declared.Table.{Table}
+use Rattle.model.specs.Codes.{isIn}
 use Rattle.model.specs.Refusals.{none}
 use Rattle.model.specs.Packet.{
   marker,
@@ -70,27 +72,42 @@ use Rattle.model.specs.WrittenRedundant.{
 use Rattle.model.specs.Sizes.{ReportFits}
 use Rattle.model.proofs.Basics.{Mem, map-mem, and-then, passed, not-refused}
 use Rattle.model.proofs.Packets.{number32-back, flag-back, ranges, payload-passes, plain-payload}
+use Rattle.model.proofs.Sets.{in-below}
 use Rattle.model.proofs.Blocks.{carries-then}
 use Rattle.model.proofs.Walks.{walks}
 
 -- RANGES
 
-pub record OlderRanges (r : Report) (o : OlderReport) : Type 0 where
-  pub code : o .code ≤ 15
+pub record OlderRanges (codes : Codes) (r : Report) (o : OlderReport) : Type 0 where
+  pub code : isIn codes (o .code) ≡ true
+  pub byte : o .code < 256
   pub volume : o .volume ≤ 63
   pub some : 1 ≤ o .duration
   pub most : o .duration ≤ 65535
   pub offset : offsetBefore r o ≤ 16383
 
-pub older-ranges : (r : Report) (o : OlderReport) → olderInRange r o ≡ true → OlderRanges r o
-older-ranges r o h = let k = simp and-eq-true-iff at h in omega (arith, leb-true)
+pub older-ranges : (codes : Codes) (r : Report) (o : OlderReport) → olderInRange codes r o ≡ true → OlderRanges codes r o
+older-ranges codes r o h =
+    let a = and-then _ _ h in
+    let b = and-then _ _ (a .1) in
+    let c = and-then _ _ (b .1) in
+    let d = and-then _ _ (c .0) in
+    record {
+      code = a .0;
+      byte = in-below codes (o .code) (a .0);
+      volume = leb-true _ _ (b .0);
+      some = leb-true _ _ (d .0);
+      most = leb-true _ _ (d .1);
+      offset = leb-true _ _ (c .1);
+    }
 
-each-older : (r : Report) (os : List OlderReport) → allOlderInRange r os ≡ true → (o : OlderReport) → Mem o os → OlderRanges r o
+each-older : (codes : Codes) (r : Report) (os : List OlderReport) → allOlderInRange codes r os ≡ true → (o : OlderReport) → Mem o os
+    → OlderRanges codes r o
 unfolding allOlderInRange
-each-older r [] h o m = absurd (List·Memᴰ·not-nil m)
-each-older r (x ∷ os) h o m =
-    let k = and-then (olderInRange r x) (allOlderInRange r os) h in
-    ⊎-elim (λ (e : o ≡ x). rw e (older-ranges r x (k .0))) (each-older r os (k .1) o) (List·Memᴰ·cases-cons m)
+each-older codes r [] h o m = absurd (List·Memᴰ·not-nil m)
+each-older codes r (x ∷ os) h o m =
+    let k = and-then (olderInRange codes r x) (allOlderInRange codes r os) h in
+    ⊎-elim (λ (e : o ≡ x). rw e (older-ranges codes r x (k .0))) (each-older codes r os (k .1) o) (List·Memᴰ·cases-cons m)
 
 -- THE HEADER
 -- of any payload: version, P, X and CSRC count are written as constants
@@ -174,7 +191,7 @@ module _ (r : Report) (bs : List ℕ) (t : timestamp bs ≡ r .timestamp) (m : m
 
 -- THE PACKET
 
-module _ (r : Report) (type : ℕ) (os : List OlderReport) (w : Writable r type os) where
+module _ (codes : Codes) (r : Report) (type : ℕ) (os : List OlderReport) (w : Writable codes r type os) where
   abbrev packet : List ℕ
   packet = redundantPacketOf r type os
 
@@ -182,7 +199,7 @@ module _ (r : Report) (type : ℕ) (os : List OlderReport) (w : Writable r type 
   carried = laidOut (map (olderWritten r) os) (primaryWritten r)
 
   event-type : r .«payload_type» ≤ 127
-  event-type = ranges r (w .report) .type
+  event-type = ranges codes r (w .report) .type
 
   pub packet-type : type ≤ 127
   packet-type =
@@ -202,7 +219,7 @@ module _ (r : Report) (type : ℕ) (os : List OlderReport) (w : Writable r type 
   older-fits : (b : Block) → Mem b (map (olderWritten r) os) → OlderFits b
   older-fits b m =
       let k = map-mem (olderWritten r) os b m in
-      let g = each-older r os (w .older) (k .0) (k .1) in
+      let g = each-older codes r os (w .older) (k .0) (k .1) in
       rw (k .2) (record { type = omega (arith, event-type); offset = omega (arith, g .offset); length = omega arith; older = refl })
 
   packet-carries : Carries (payload packet) (map (olderWritten r) os) (primaryWritten r)
@@ -224,22 +241,22 @@ module _ (r : Report) (type : ℕ) (os : List OlderReport) (w : Writable r type 
   walk-hands-out = subst (HandsOut packet (walkStart packet .cursor)) packet-blocks (walks packet walk-starts)
 
   -- the receiver
-  payloads-heard : (a : Arrival) → Mem a (arrivalsWritten r os) → payloadRefusal (a .payload) ≡ none
+  payloads-heard : (a : Arrival) → Mem a (arrivalsWritten r os) → payloadRefusal codes (a .payload) ≡ none
   payloads-heard a m =
       ⊎-elim older-one (λ k. ⊎-elim last-one (λ n. absurd (List·Memᴰ·not-nil n)) (List·Memᴰ·cases-cons k))
       (List·Memᴰ·append-cases (map olderArrival os) m)
     where
-      older-one : Mem a (map olderArrival os) → payloadRefusal (a .payload) ≡ none
+      older-one : Mem a (map olderArrival os) → payloadRefusal codes (a .payload) ≡ none
       older-one k =
           let g = map-mem olderArrival os a k in
           let o = g .0 in
-          let q = each-older r os (w .older) o (g .1) in
-          rw (g .2) (payload-passes (o .code) (o .ended) (o .volume) (o .duration) (q .code) (q .some) (q .most))
+          let q = each-older codes r os (w .older) o (g .1) in
+          rw (g .2) (payload-passes codes (o .code) (o .ended) (o .volume) (o .duration) (q .code) (q .some) (q .most))
 
-      last-one : a ≡ reportArrival r → payloadRefusal (a .payload) ≡ none
+      last-one : a ≡ reportArrival r → payloadRefusal codes (a .payload) ≡ none
       last-one e =
-          let q = ranges r (w .report) in
-          rw e (payload-passes (r .code) (r .ended) (r .volume) (r .duration) (q .code) (q .some) (q .most))
+          let q = ranges codes r (w .report) in
+          rw e (payload-passes codes (r .code) (r .ended) (r .volume) (r .duration) (q .code) (q .some) (q .most))
 
   module _ (h : Head) (f : OlderReportsFit r os)
       (event : h .«payload_type» ≡ r .«payload_type») (both : isForBoth h ≡ true) (other : h .«redundant_type» ≡ type) where
@@ -292,13 +309,13 @@ module _ (r : Report) (type : ℕ) (os : List OlderReport) (w : Writable r type 
         refl
 
 pub walked-as-written : Walked-as-written
-walked-as-written r type os w = (walk-starts r type os w, walk-hands-out r type os w)
+walked-as-written codes r type os w = (walk-starts codes r type os w, walk-hands-out codes r type os w)
 
 pub received-as-written : Received-as-written
 received-as-written r type os h w f event both other = record {
-  reports = packet-reports r type os w h f event both other;
-  payloads = payloads-heard r type os w;
-  whole = whole-unrefused r type os w h f event both other;
+  reports = packet-reports (h .codes) r type os w h f event both other;
+  payloads = payloads-heard (h .codes) r type os w;
+  whole = whole-unrefused (h .codes) r type os w h f event both other;
 }
 
 -- THE CALL
@@ -337,24 +354,24 @@ bytes-length r type count first second h =
     packet-length r type (olderGiven count first second) ∙ ap (λ (n : ℕ). 17 + 8 * n) (given-length count first second h)
 
 -- what the test of all numbers says
-pub record Tested (r : Report) (type count : ℕ) (first second : OlderReport) : Type 0 where
-  pub writable : Writable r type (olderGiven count first second)
+pub record Tested (codes : Codes) (r : Report) (type count : ℕ) (first second : OlderReport) : Type 0 where
+  pub writable : Writable codes r type (olderGiven count first second)
   pub few : count ≤ 2
 
-pub tested : (r : Report) (type count : ℕ) (first second : OlderReport) → redundantInRange r type count first second ≡ true
-    → Tested r type count first second
-tested r type count first second h =
-    let a = and-then (reportInRange r) _ h in
+pub tested : (codes : Codes) (r : Report) (type count : ℕ) (first second : OlderReport) → redundantInRange codes r type count first second ≡ true
+    → Tested codes r type count first second
+tested codes r type count first second h =
+    let a = and-then (reportInRange codes r) _ h in
     let b = and-then (typesDiffer (r .«payload_type») type) _ (a .1) in
     let c = and-then (leb count 2) _ (b .1) in
     record { writable = record { report = a .0; types = b .0; older = c .1 }; few = leb-true count 2 (c .0) }
 
 pub packet-of-call : Packet-of-call
 unfolding writeRedundant
-packet-of-call r type count first second output e =
-    let n = not-refused (writeRedundantRefusal r type count first second output) tt tt e in
-    let a = passed (not (redundantInRange r type count first second)) 11 _ n in
-    let t = tested r type count first second (not-false (redundantInRange r type count first second) (a .0)) in
+packet-of-call codes r type count first second output e =
+    let n = not-refused (writeRedundantRefusal codes r type count first second output) tt tt e in
+    let a = passed (not (redundantInRange codes r type count first second)) 11 _ n in
+    let t = tested codes r type count first second (not-false (redundantInRange codes r type count first second) (a .0)) in
     let bytes = redundantPacketOf r type (olderGiven count first second) in
     let long = bytes-length r type count first second (t .few) in
     (t .writable, rw n (take-at bytes (drop (length bytes) output) (17 + 8 * count) long))

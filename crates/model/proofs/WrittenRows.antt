@@ -9,6 +9,7 @@ use lib.ListN.{take, replicate}
 use Rattle.model.specs.declared.Report.{Report}
 use Rattle.model.specs.declared.OlderReport.{OlderReport}
 use Rattle.model.specs.declared.Head.{Head}
+use Rattle.model.specs.Codes.{isIn, theKeys}
 use Rattle.model.specs.Refusals.{Told, answered, refusedBy}
 use Rattle.model.specs.Packet.{reportInRange}
 use Rattle.model.specs.Blocks.{headersOf, dataOf}
@@ -95,10 +96,10 @@ packets =
 
 pub packets-written :
     map (λ row. (
-      writeRedundant now 102 (row .0 .0) (row .0 .1) (row .0 .2) (replicate (row .0 .3) 9) .answer,
-      writeRedundant now 102 (row .0 .0) (row .0 .1) (row .0 .2) (replicate (row .0 .3) 9) .output,
+      writeRedundant theKeys now 102 (row .0 .0) (row .0 .1) (row .0 .2) (replicate (row .0 .3) 9) .answer,
+      writeRedundant theKeys now 102 (row .0 .0) (row .0 .1) (row .0 .2) (replicate (row .0 .3) 9) .output,
     )) packets ≡ map (λ row. row .1) packets
-unfolding writeRedundant redundantPacketOf allOlderInRange reportInRange headersOf dataOf
+unfolding isIn writeRedundant redundantPacketOf allOlderInRange reportInRange headersOf dataOf
 packets-written = refl
 
 -- THE RANGES
@@ -133,8 +134,8 @@ ranges =
     ∷ ((now, 102, older 257 5 false 10 400), refusedBy 12 tt)
     ∷ []
 
-pub ranges-told : map (λ row. writeRedundant (row .0 .0) (row .0 .1) 1 (row .0 .2) junk (replicate 25 9) .answer) ranges ≡ map (λ row. row .1) ranges
-unfolding writeRedundant redundantPacketOf allOlderInRange reportInRange headersOf dataOf
+pub ranges-told : map (λ row. writeRedundant theKeys (row .0 .0) (row .0 .1) 1 (row .0 .2) junk (replicate 25 9) .answer) ranges ≡ map (λ row. row .1) ranges
+unfolding isIn writeRedundant redundantPacketOf allOlderInRange reportInRange headersOf dataOf
 ranges-told = refl
 
 -- THE CLAIMS APPLIED
@@ -145,8 +146,8 @@ both = recent ∷ early ∷ []
 abbrev opened : Head
 opened = head 101 1 102 0x11223344 0 0
 
-writable : Writable now 102 both
-unfolding reportInRange allOlderInRange
+writable : Writable theKeys now 102 both
+unfolding isIn reportInRange allOlderInRange
 writable = record { report = refl; types = refl; older = refl }
 
 fits : OlderReportsFit now both
@@ -156,12 +157,12 @@ fits = record { report = record { sequence = lit< tt; timestamp = lit< tt; ssrc 
     each o (List·Memᴰ·head q) = rw q (lit< tt)
     each o (List·Memᴰ·tail (List·Memᴰ·head q)) = rw q (lit< tt)
 
-pub called : take 33 (writeRedundant now 102 2 recent early (replicate 40 9) .output) ≡ redundantPacketOf now 102 both
-unfolding writeRedundant redundantPacketOf allOlderInRange reportInRange headersOf dataOf
-called = packet-of-call now 102 2 recent early (replicate 40 9) refl .1
+pub called : take 33 (writeRedundant theKeys now 102 2 recent early (replicate 40 9) .output) ≡ redundantPacketOf now 102 both
+unfolding isIn writeRedundant redundantPacketOf allOlderInRange reportInRange headersOf dataOf
+called = packet-of-call theKeys now 102 2 recent early (replicate 40 9) refl .1
 
 pub walked : HandsOut (redundantPacketOf now 102 both) (walkStart (redundantPacketOf now 102 both) .cursor) (blocksWritten now both)
-walked = walked-as-written now 102 both writable .1
+walked = walked-as-written theKeys now 102 both writable .1
 
 pub received : ReceivedAsWritten now 102 both opened
 received = received-as-written now 102 both opened writable fits refl refl refl

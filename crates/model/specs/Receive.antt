@@ -39,23 +39,23 @@ heardFrom origin a = record {
 unfoldable pub heardBy : Table → Arrival → Segment
 heardBy t a = heardFrom (t .head .origin) a
 
--- the refusals before the segments held are searched for the report's pair, from an origin
-unfoldable pub unheard : ℕ → Arrival → ℕ
-unheard origin a =
-    payloadRefusal (a .payload) orElse
-    offsetTooLarge if leb 0x8000_0000 (offset origin (a .timestamp)) else
+-- the refusals before the segments held are searched for the report's pair, in a table with this head
+unfoldable pub unheard : Head → Arrival → ℕ
+unheard h a =
+    payloadRefusal (h .codes) (a .payload) orElse
+    offsetTooLarge if leb 0x8000_0000 (offset (h .origin) (a .timestamp)) else
     none
 
 -- and then the one that the search finds out
 unfoldable pub hearRefusal : Table → Arrival → ℕ
 hearRefusal t a =
-    unheard (t .head .origin) a orElse
+    unheard (t .head) a orElse
     tableFull if noRoom t (heardBy t a) else
     none
 
 -- the number of entries looked at: "Under 11 too; refused before the search: 0" (02, request 4)
 unfoldable pub probes : Table → Arrival → ℕ
-probes t a = cond (eqb (unheard (t .head .origin) a) none) (search (heardBy t a) (held t) .probes) 0
+probes t a = cond (eqb (unheard (t .head) a) none) (search (heardBy t a) (held t) .probes) 0
 
 -- what the call answers, and the table after it
 pub record Receiving : Type 0 where

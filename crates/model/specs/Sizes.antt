@@ -55,8 +55,8 @@ segmentsInAll t (e ∷ es) = length (cut (planOf t e)) + segmentsInAll t es
 
 -- the sizes
 pub record Sizes (t : Table) (es : List Sent) : Type 0 where
-  -- lengths, periods, segment sizes, volumes and codes as in the plan
-  pub ranges : (e : Sent) → List·Memᴰ e es → planInRange (planOf t e) ≡ true
+  -- lengths, periods, segment sizes and volumes as in the plan, and codes in the table's set
+  pub ranges : (e : Sent) → List·Memᴰ e es → planInRange (t .head .codes) (planOf t e) ≡ true
   pub apart : Apart es
   -- each ends below offset 2^31
   pub near : (e : Sent) → List·Memᴰ e es → end e < 0x8000_0000

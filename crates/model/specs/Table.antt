@@ -6,35 +6,39 @@ use mathlib.Core.Bool.{Bool, true, false, not, cond, _&&_, _||_}
 use mathlib.Core.List.{List, [], _∷_, _++_, map}
 use lib.Dec.{ltb, leb, eqb}
 use lib.ListN.{length, getD, drop, replicate}
+use Rattle.model.specs.declared.Codes.{Codes}
 use Rattle.model.specs.declared.Segment.{Segment}
 use Rattle.model.specs.declared.Head.{Head}
 use Rattle.model.specs.declared.Table.{Table}
 use Rattle.model.specs.declared.Opened.{Opened}
-use Rattle.model.specs.Limits.{isCode}
 use Rattle.model.specs.Refusals.{outOfRange, none}
+use Rattle.model.specs.Codes.{isIn, isEmpty, emptySet}
 use Rattle.model.specs.Packet.{bit}
 use Rattle.model.specs.Segments.{before, samePair, rising, merge}
 
 -- OPENING
 
--- what a table is opened for: one payload type, the event's; or also that of redundant packets (02, request 2)
-abbrev pub oneType : ℕ → ℕ → ℕ → Head
-oneType payloadType ssrc origin = record {
+-- what a table is opened for: a set of codes (02, request 6) and one payload type, the event's; or also that of redundant packets
+-- (02, request 2)
+abbrev pub oneType : Codes → ℕ → ℕ → ℕ → Head
+oneType codes payloadType ssrc origin = record {
   «payload_type» = payloadType;
   «both_types» = 0;
   «redundant_type» = 0;
   ssrc = ssrc;
   origin = origin;
+  codes = codes;
   count = 0;
 }
 
-abbrev pub bothTypes : ℕ → ℕ → ℕ → ℕ → Head
-bothTypes payloadType redundantType ssrc origin = record {
+abbrev pub bothTypes : Codes → ℕ → ℕ → ℕ → ℕ → Head
+bothTypes codes payloadType redundantType ssrc origin = record {
   «payload_type» = payloadType;
   «both_types» = 1;
   «redundant_type» = redundantType;
   ssrc = ssrc;
   origin = origin;
+  codes = codes;
   count = 0;
 }
 
@@ -46,25 +50,26 @@ isForBoth h = not (eqb (h .«both_types») 0)
 abbrev pub emptyTable : Head → Table
 emptyTable h = record { head = h; keys = replicate 128 0; heard = replicate 128 0 }
 
--- a refused open returns an empty table of zeros
+-- a refused open returns an empty table of zeros, with the empty set
 abbrev pub openedIf : Bool → Head → Opened
 openedIf inRange h =
     cond inRange
     (record { table = emptyTable h; refusal = none })
-    (record { table = emptyTable (oneType 0 0 0); refusal = outOfRange })
+    (record { table = emptyTable (oneType emptySet 0 0 0); refusal = outOfRange })
 
--- the first opening: a payload type up to 127
-abbrev pub opened : ℕ → ℕ → ℕ → Opened
-opened payloadType ssrc origin = openedIf (leb payloadType 127) (oneType payloadType ssrc origin)
+-- the first opening: a set that is not empty, a payload type up to 127
+abbrev pub opened : Codes → ℕ → ℕ → ℕ → Opened
+opened codes payloadType ssrc origin =
+    openedIf (not (isEmpty codes) && leb payloadType 127) (oneType codes payloadType ssrc origin)
 
 -- two payload types up to 127 that differ
 abbrev pub typesDiffer : ℕ → ℕ → Bool
 typesDiffer payloadType redundantType = leb payloadType 127 && (leb redundantType 127 && not (eqb payloadType redundantType))
 
 -- the second opening takes both types (02, request 2)
-abbrev pub openedBoth : ℕ → ℕ → ℕ → ℕ → Opened
-openedBoth payloadType redundantType ssrc origin =
-    openedIf (typesDiffer payloadType redundantType) (bothTypes payloadType redundantType ssrc origin)
+abbrev pub openedBoth : Codes → ℕ → ℕ → ℕ → ℕ → Opened
+openedBoth codes payloadType redundantType ssrc origin =
+    openedIf (not (isEmpty codes) && typesDiffer payloadType redundantType) (bothTypes codes payloadType redundantType ssrc origin)
 
 -- A SEGMENT IN TWO NUMBERS
 -- The key orders segments: by offset, then code. The other number is what was heard.
@@ -107,6 +112,7 @@ holding n h = record {
   «redundant_type» = h .«redundant_type»;
   ssrc = h .ssrc;
   origin = h .origin;
+  codes = h .codes;
   count = n;
 }
 
@@ -137,24 +143,25 @@ storing l t = record {
 
 -- THE TESTS
 
--- offset below 2^31, code 0 to 15, duration 1 to 65,535, volume 0 to 63
-abbrev pub validSegment : Segment → Bool
-validSegment s =
+-- offset below 2^31, code in the set, duration 1 to 65,535, volume 0 to 63
+abbrev pub validSegment : Codes → Segment → Bool
+validSegment codes s =
     ltb (s .offset) 0x8000_0000
-    && (isCode (s .code) && ((leb 1 (s .duration) && leb (s .duration) 65535) && leb (s .volume) 63))
+    && (isIn codes (s .code) && ((leb 1 (s .duration) && leb (s .duration) 65535) && leb (s .volume) 63))
 
-unfoldable pub allValid : List Segment → Bool
-allValid [] = true
-allValid (s ∷ ts) = validSegment s && allValid ts
+unfoldable pub allValid : Codes → List Segment → Bool
+allValid codes [] = true
+allValid codes (s ∷ ts) = validSegment codes s && allValid codes ts
 
 -- A payload type up to 127. In a table of the second opening both types, and that they differ; a table of the first has the event's
 -- type alone (02, request 2).
 abbrev pub validTypes : Head → Bool
 validTypes h = cond (isForBoth h) (typesDiffer (h .«payload_type») (h .«redundant_type»)) (leb (h .«payload_type») 127)
 
--- at most 128 segments, strictly rising by offset then code, each within its ranges, and the types
+-- At most 128 segments, strictly rising by offset then code, each within its ranges, and the types. The set is not asked to hold a code:
+-- with an empty one a table without segments passes.
 unfoldable pub valid : Table → Bool
-valid t = leb (t .head .count) 128 && (rising (held t) && (allValid (held t) && validTypes (t .head)))
+valid t = leb (t .head .count) 128 && (rising (held t) && (allValid (t .head .codes) (held t) && validTypes (t .head)))
 
 -- ONE REPORT
 

@@ -5,10 +5,11 @@ use mathlib.Core.Bool.{Bool, true, false, not, cond, _&&_}
 use mathlib.Core.List.{List, [], _∷_, _++_, map}
 use lib.Dec.{ltb, leb, eqb}
 use lib.ListN.{length, take}
+use Rattle.model.specs.declared.Codes.{Codes}
 use Rattle.model.specs.declared.Report.{Report}
 use Rattle.model.specs.declared.OlderReport.{OlderReport}
-use Rattle.model.specs.Limits.{isCode}
 use Rattle.model.specs.Refusals.{outOfRange, outputTooSmall, none, _if_else_, telling}
+use Rattle.model.specs.Codes.{isIn}
 use Rattle.model.specs.Packet.{headerBytes, payloadBytes, reportInRange, Writing}
 use Rattle.model.specs.Table.{typesDiffer, place}
 use Rattle.model.specs.Blocks.{Block, primaryBlock, laidOut}
@@ -43,27 +44,27 @@ redundantPacketOf r redundantType os = headerBytes r redundantType ++ laidOut (m
 abbrev pub olderGiven : ℕ → OlderReport → OlderReport → List OlderReport
 olderGiven count first second = take count (first ∷ second ∷ [])
 
-abbrev pub olderInRange : Report → OlderReport → Bool
-olderInRange r o =
-    isCode (o .code) && (leb (o .volume) 63 && ((leb 1 (o .duration) && leb (o .duration) 65535) && leb (offsetBefore r o) 16383))
+abbrev pub olderInRange : Codes → Report → OlderReport → Bool
+olderInRange codes r o =
+    isIn codes (o .code) && (leb (o .volume) 63 && ((leb 1 (o .duration) && leb (o .duration) 65535) && leb (offsetBefore r o) 16383))
 
-unfoldable pub allOlderInRange : Report → List OlderReport → Bool
-allOlderInRange r [] = true
-allOlderInRange r (o ∷ os) = olderInRange r o && allOlderInRange r os
+unfoldable pub allOlderInRange : Codes → Report → List OlderReport → Bool
+allOlderInRange codes r [] = true
+allOlderInRange codes r (o ∷ os) = olderInRange codes r o && allOlderInRange codes r os
 
 -- both types up to 127 and different, no third older report, and every number in its range
-abbrev pub redundantInRange : Report → ℕ → ℕ → OlderReport → OlderReport → Bool
-redundantInRange r redundantType count first second =
-    reportInRange r
-    && (typesDiffer (r .«payload_type») redundantType && (leb count 2 && allOlderInRange r (olderGiven count first second)))
+abbrev pub redundantInRange : Codes → Report → ℕ → ℕ → OlderReport → OlderReport → Bool
+redundantInRange codes r redundantType count first second =
+    reportInRange codes r
+    && (typesDiffer (r .«payload_type») redundantType && (leb count 2 && allOlderInRange codes r (olderGiven count first second)))
 
-module _ (r : Report) (redundantType count : ℕ) (first second : OlderReport) (output : List ℕ) where
+module _ (codes : Codes) (r : Report) (redundantType count : ℕ) (first second : OlderReport) (output : List ℕ) where
   abbrev pub redundantBytes : List ℕ
   redundantBytes = redundantPacketOf r redundantType (olderGiven count first second)
 
   abbrev pub writeRedundantRefusal : ℕ
   writeRedundantRefusal =
-      outOfRange if not (redundantInRange r redundantType count first second) else
+      outOfRange if not (redundantInRange codes r redundantType count first second) else
       outputTooSmall if ltb (length output) (length redundantBytes) else
       none
 

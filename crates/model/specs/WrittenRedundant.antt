@@ -5,6 +5,7 @@ use mathlib.Core.Path.{_≡_}
 use mathlib.Core.Bool.{true, false}
 use mathlib.Core.List.{List, [], _∷_, _++_, map, List·Memᴰ}
 use lib.ListN.{length, take}
+use Rattle.model.specs.declared.Codes.{Codes}
 use Rattle.model.specs.declared.Report.{Report}
 use Rattle.model.specs.declared.OlderReport.{OlderReport}
 use Rattle.model.specs.declared.Head.{Head}
@@ -18,11 +19,12 @@ use Rattle.model.specs.Redundant.{reportsIn, wholeRefusal}
 use Rattle.model.specs.WriteRedundant.{blocksWritten, redundantPacketOf, olderGiven, allOlderInRange, writeRedundant}
 use Rattle.model.specs.Sizes.{ReportFits}
 
--- What the writer asks: every number in its range, and two types that differ. The claims hold for any number of older reports.
-pub record Writable (r : Report) (redundantType : ℕ) (os : List OlderReport) : Type 0 where
-  pub report : reportInRange r ≡ true
+-- What the writer asks: every number in its range, the codes in a set, and two types that differ. The claims hold for any number of
+-- older reports.
+pub record Writable (codes : Codes) (r : Report) (redundantType : ℕ) (os : List OlderReport) : Type 0 where
+  pub report : reportInRange codes r ≡ true
   pub types : typesDiffer (r .«payload_type») redundantType ≡ true
-  pub older : allOlderInRange r os ≡ true
+  pub older : allOlderInRange codes r os ≡ true
 
 -- what the machine's types say
 pub record OlderReportsFit (r : Report) (os : List OlderReport) : Type 0 where
@@ -34,10 +36,10 @@ pub record OlderReportsFit (r : Report) (os : List OlderReport) : Type 0 where
 
 abbrev pub Packet-of-call : Type 0
 Packet-of-call =
-    (r : Report) (redundantType count : ℕ) (first second : OlderReport) (output : List ℕ)
-    → writeRedundant r redundantType count first second output .answer .refused ≡ false
-    → Writable r redundantType (olderGiven count first second)
-    × (take (17 + 8 * count) (writeRedundant r redundantType count first second output .output)
+    (codes : Codes) (r : Report) (redundantType count : ℕ) (first second : OlderReport) (output : List ℕ)
+    → writeRedundant codes r redundantType count first second output .answer .refused ≡ false
+    → Writable codes r redundantType (olderGiven count first second)
+    × (take (17 + 8 * count) (writeRedundant codes r redundantType count first second output .output)
     ≡ redundantPacketOf r redundantType (olderGiven count first second))
 
 -- THE WALKER
@@ -45,7 +47,7 @@ Packet-of-call =
 
 abbrev pub Walked-as-written : Type 0
 Walked-as-written =
-    (r : Report) (redundantType : ℕ) (os : List OlderReport) → Writable r redundantType os
+    (codes : Codes) (r : Report) (redundantType : ℕ) (os : List OlderReport) → Writable codes r redundantType os
     → (walkStart (redundantPacketOf r redundantType os) .refusal ≡ none)
     × HandsOut (redundantPacketOf r redundantType os) (walkStart (redundantPacketOf r redundantType os) .cursor) (blocksWritten r os)
 
@@ -73,13 +75,13 @@ arrivalsWritten r os = map olderArrival os ++ (reportArrival r ∷ [])
 -- for this SSRC does not refuse the packet whole, if there is an entry for each.
 pub record ReceivedAsWritten (r : Report) (redundantType : ℕ) (os : List OlderReport) (h : Head) : Type 0 where
   pub reports : reportsIn h (redundantPacketOf r redundantType os) ≡ arrivalsWritten r os
-  pub payloads : (a : Arrival) → List·Memᴰ a (arrivalsWritten r os) → payloadRefusal (a .payload) ≡ none
+  pub payloads : (a : Arrival) → List·Memᴰ a (arrivalsWritten r os) → payloadRefusal (h .codes) (a .payload) ≡ none
   pub whole : (t : Table) (room : ℕ) → t .head ≡ h → valid t ≡ true → h .ssrc ≡ r .ssrc → length os + 1 ≤ room
       → wholeRefusal t (redundantPacketOf r redundantType os) room ≡ none
 
--- the table was opened for the report's type and for this redundant type
+-- the table was opened for the report's type, for this redundant type and for the set that the writer was given
 abbrev pub Received-as-written : Type 0
 Received-as-written =
-    (r : Report) (redundantType : ℕ) (os : List OlderReport) (h : Head) → Writable r redundantType os → OlderReportsFit r os
+    (r : Report) (redundantType : ℕ) (os : List OlderReport) (h : Head) → Writable (h .codes) r redundantType os → OlderReportsFit r os
     → h .«payload_type» ≡ r .«payload_type» → isForBoth h ≡ true → h .«redundant_type» ≡ redundantType
     → ReceivedAsWritten r redundantType os h

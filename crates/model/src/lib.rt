@@ -1,5 +1,14 @@
 // The types of the library and the numbers of its refusals. What they mean stands in specs/; there is no function here.
 
+// A set of event codes, 0 to 255, a bit for each: the lowest bit of `from_0` is code 0, the highest of `from_192` code 255.
+#[repr(C)]
+pub struct Codes {
+    pub from_0: u64,
+    pub from_64: u64,
+    pub from_128: u64,
+    pub from_192: u64,
+}
+
 // One report on the wire: an RTP packet that carries one telephone event (RFC 3550, 5.1; RFC 4733, 2.3).
 // Numbers with a range narrower than their type are tested by whoever takes a Report.
 #[repr(C)]
@@ -52,6 +61,7 @@ pub struct Head {
     pub redundant_type: u8,
     pub ssrc: u32,
     pub origin: u32,
+    pub codes: Codes,
     pub count: usize,
 }
 
@@ -74,6 +84,24 @@ pub struct Event {
     pub volume: u8,
     pub began: bool,
     pub ended: bool,
+}
+
+// What reading a text of codes answers.
+pub enum CodesAnswer {
+    Read(Codes),
+    Refused(u8),
+}
+
+// The lowest code of a set.
+pub enum LowestAnswer {
+    Lowest(u32),
+    Refused(u8),
+}
+
+// What writing a set of codes answers: how many bytes its text has.
+pub enum TextAnswer {
+    Written(usize),
+    Refused(u8),
 }
 
 // What reading a packet answers.
@@ -208,7 +236,7 @@ pub const OTHER_SSRC: u8 = 6;
 
 pub const NOT_ONE_REPORT: u8 = 7;
 
-pub const CODE_TOO_HIGH: u8 = 8;
+pub const CODE_NOT_IN_SET: u8 = 8;
 
 pub const NO_DURATION: u8 = 9;
 
@@ -231,3 +259,5 @@ pub const PACKED: u8 = 17;
 pub const HEADERS_RUN_OUT: u8 = 18;
 
 pub const BLOCKS_TOO_LONG: u8 = 19;
+
+pub const NO_CODES: u8 = 20;

@@ -1,13 +1,14 @@
 -- Writing report k of a plan: for each way through its refusals what is answered, and the output after it. Past them the
 -- packet's own writer does the rest, since every report of a plan is in range.
 use Prim.Native.Nat.{ℕ, _≤_, _<_}
-use mathlib.Core.Path.{_≡_}
+use mathlib.Core.Path.{_≡_, sym, _∙_}
 use mathlib.Core.Bool.{Bool, true, false, not}
 use mathlib.Core.List.{List}
 use native.Mathlib.Omega.{arith}
 use lib.ListN.{length}
 use borrow.Author.Needs.{needs}
-use borrow.Author.Tests.{not-true, eq-eqb, ne-eqb, lt-ltb, le-ltb}
+use borrow.Author.Tests.{not-true, not-false, eq-eqb, ne-eqb, lt-ltb, le-ltb}
+use Rattle.model.specs.declared.Codes.{Codes}
 use Rattle.model.specs.declared.Report.{Report}
 use Rattle.model.specs.declared.Plan.{Plan}
 use Rattle.model.specs.Refusals.{Told, refusedBy}
@@ -16,51 +17,51 @@ use Rattle.model.specs.Plan.{planInRange, reports, reportAt, writeReport}
 use Rattle.model.proofs.Sends.{plan-ranges, report-in-range}
 use Rattle.plan.proofs.Ways.{passed}
 
-module _ (p : Plan) (k : ℕ) (output : List ℕ) (b : Bool) (tested : b ≡ planInRange p) where
+module _ (codes : Codes) (p : Plan) (k : ℕ) (output : List ℕ) (b : Bool) (tested : b ≡ planInRange codes p) where
   module _ (h : not b ≡ true) where
-    pub out-of-range : refusedBy 12 tt ≡ writeReport p k output .answer
+    pub out-of-range : refusedBy 12 tt ≡ writeReport codes p k output .answer
     unfolding writeReport
     out-of-range = rw (← tested, not-true b h)
 
-    pub out-of-range-stays : output ≡ writeReport p k output .output
+    pub out-of-range-stays : output ≡ writeReport codes p k output .output
     unfolding writeReport
     out-of-range-stays = rw (← tested, not-true b h)
 
   module _ (h : not b ≡ false) where
-    range : planInRange p ≡ true
-    range = passed p b tested h
+    range : planInRange codes p ≡ true
+    range = sym tested ∙ not-false b h
 
     module _ (e : k ≡ 0) where
-      pub number-none : refusedBy 13 tt ≡ writeReport p k output .answer
+      pub number-none : refusedBy 13 tt ≡ writeReport codes p k output .answer
       unfolding writeReport
       number-none = rw (range, eq-eqb k 0 e)
 
-      pub number-none-stays : output ≡ writeReport p k output .output
+      pub number-none-stays : output ≡ writeReport codes p k output .output
       unfolding writeReport
       number-none-stays = rw (range, eq-eqb k 0 e)
 
     module _ (some : k ≡ 0 → ⊥) (n : ℕ) (count : n ≡ length (reports p)) where
       module _ (e : n < k) where
-        pub number-above : refusedBy 13 tt ≡ writeReport p k output .answer
+        pub number-above : refusedBy 13 tt ≡ writeReport codes p k output .answer
         unfolding writeReport
         number-above = rw (range, ne-eqb k 0 some, lt-ltb (length (reports p)) k (omega arith))
 
-        pub number-above-stays : output ≡ writeReport p k output .output
+        pub number-above-stays : output ≡ writeReport codes p k output .output
         unfolding writeReport
         number-above-stays = rw (range, ne-eqb k 0 some, lt-ltb (length (reports p)) k (omega arith))
 
       module _ (within : k ≤ n) (r : Report) (e : r ≡ reportAt p k) where
         -- past the refusals of the plan the call is one of `write`
-        as-packet : writeReport p k output ≡ write r output
+        as-packet : writeReport codes p k output ≡ write codes r output
         unfolding writeReport write
         as-packet =
-            let fine : reportInRange (reportAt p k) ≡ true = report-in-range p k (omega arith) (omega arith) (plan-ranges p range) in
+            let fine : reportInRange codes (reportAt p k) ≡ true = report-in-range p k (omega arith) (omega arith) (plan-ranges codes p range) in
             rw (e, fine, range, ne-eqb k 0 some, le-ltb (length (reports p)) k (omega arith))
 
-        pub written-out : (a : Told (Unit {0})) → a ≡ write r output .answer → a ≡ writeReport p k output .answer
+        pub written-out : (a : Told (Unit {0})) → a ≡ write codes r output .answer → a ≡ writeReport codes p k output .answer
         written-out a w = rw as-packet w
 
-        pub written-after : (after : List ℕ) → after ≡ write r output .output → after ≡ writeReport p k output .output
+        pub written-after : (after : List ℕ) → after ≡ write codes r output .output → after ≡ writeReport codes p k output .output
         written-after after w = rw as-packet w
 
 pub ruleset writing-reports = (

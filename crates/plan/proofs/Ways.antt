@@ -10,12 +10,15 @@ use mir.Syntax.{w32}
 use mir.Val.{Fits}
 use borrow.Author.Needs.{needs}
 use borrow.Author.Tests.{lt-ltb, le-ltb, le-leb, lt-leb, not-true, not-false}
+use Rattle.model.specs.declared.Codes.{Codes}
 use Rattle.model.specs.declared.Plan.{Plan}
+use Rattle.model.specs.Codes.{isIn}
 use Rattle.model.specs.declared.CountAnswer.the-variants.{Reports, Refused}
 use Rattle.model.specs.Refusals.{toldCount}
 use Rattle.model.specs.Plan.{fullSegments, restUnits, longest, lengthsInRange, planInRange, reportCount, reports, reportAt}
 use Rattle.model.proofs.Cuts.{full-few}
-use Rattle.model.proofs.Sends.{plan-ranges}
+use Rattle.model.proofs.Sends.{length-ranges}
+use Rattle.model.proofs.Basics.{and-then}
 use Rattle.plan.specs.declared.Place.{Place}
 use Rattle.plan.specs.Formula.{interimCount, reportsIn, durationAt, perFull, reportTotal, placeOf, unitsAt, endedAt}
 use Rattle.plan.proofs.Laws.{length-reports, in-place, report-at}
@@ -45,40 +48,41 @@ module _ (p : Plan) where
           pub by-period : 1 ≤ p .period → leb (p .period) 65535 ≡ lengthsInRange p
           by-period h = simp le-leb
 
-  pub wrong-type : 127 < p .«payload_type» → false ≡ planInRange p
+module _ (codes : Codes) (p : Plan) where
+  pub wrong-type : 127 < p .«payload_type» → false ≡ planInRange codes p
   wrong-type h = simp lt-leb
 
-  module _ (a : p .«payload_type» ≤ 127) where
-    pub wrong-code : 15 < p .code → false ≡ planInRange p
-    wrong-code h = simp (le-leb, lt-leb)
+  module _ (a : p .«payload_type» ≤ 127) (b : Bool) (known : b ≡ isIn codes (p .code)) where
+    pub wrong-code : not b ≡ true → false ≡ planInRange codes p
+    wrong-code h = rw (le-leb (p .«payload_type») 127 a, ← known, not-true b h)
 
-    module _ (b : p .code ≤ 15) where
-      pub wrong-volume : 63 < p .volume → false ≡ planInRange p
-      wrong-volume h = simp (le-leb, lt-leb)
+    module _ (k : not b ≡ false) where
+      pub wrong-volume : 63 < p .volume → false ≡ planInRange codes p
+      wrong-volume h = rw (le-leb (p .«payload_type») 127 a, ← known, not-false b k, lt-leb (p .volume) 63 h)
 
-      pub by-lengths : p .volume ≤ 63 → (r : Bool) → r ≡ lengthsInRange p → r ≡ planInRange p
-      by-lengths h r e = rw e (simp le-leb)
+      pub by-lengths : p .volume ≤ 63 → (r : Bool) → r ≡ lengthsInRange p → r ≡ planInRange codes p
+      by-lengths h r e = rw (le-leb (p .«payload_type») 127 a, ← known, not-false b k, le-leb (p .volume) 63 h) e
 
--- what is known of a plan in range
-module _ (p : Plan) (h : planInRange p ≡ true) where
+-- what is known of a plan whose lengths are in range
+module _ (p : Plan) (h : lengthsInRange p ≡ true) where
   pub some-length : 1 ≤ p .length
-  some-length = plan-ranges p h .some
+  some-length = length-ranges p h .some
 
   pub some-size : 1 ≤ p .«segment_size»
-  some-size = plan-ranges p h .wide
+  some-size = length-ranges p h .wide
 
   pub size-fits : p .«segment_size» ≤ 65535
-  size-fits = plan-ranges p h .narrow
+  size-fits = length-ranges p h .narrow
 
   pub some-period : 1 ≤ p .period
-  some-period = plan-ranges p h .often
+  some-period = length-ranges p h .often
 
   pub rest-fits : (r : ℕ) → r ≡ restUnits p → r ≤ 65535
   rest-fits r e = omega (arith, mod-lt (p .length - 1) some-size, size-fits)
 
   -- the segments before the last
   few-full : fullSegments p ≤ 15
-  few-full = full-few p some-size (plan-ranges p h .most)
+  few-full = full-few p some-size (length-ranges p h .most)
 
 -- ONE SEGMENT
 
@@ -105,7 +109,7 @@ module _ (units period n : ℕ) (interim : n ≡ interimCount period units) wher
 
 -- THE COUNT
 
-module _ (p : Plan) (h : planInRange p ≡ true) (n a : ℕ) (full : n ≡ fullSegments p) (per : a ≡ perFull p) where
+module _ (p : Plan) (h : lengthsInRange p ≡ true) (n a : ℕ) (full : n ≡ fullSegments p) (per : a ≡ perFull p) where
   full-reports : n * a ≤ 983055
   full-reports =
       let l : n ≤ 15 = omega (arith, few-full p h) in
@@ -121,14 +125,17 @@ module _ (p : Plan) (h : planInRange p ≡ true) (n a : ℕ) (full : n ≡ fullS
     pub all-counted : n * a + b ≡ length (reports p)
     all-counted = rw (length-reports p, full, per, last, rest)
 
-module _ (p : Plan) (b : Bool) (tested : b ≡ planInRange p) where
-  pub refused : not b ≡ true → toldCount (Refused 12) ≡ reportCount p
+module _ (codes : Codes) (p : Plan) (b : Bool) (tested : b ≡ planInRange codes p) where
+  pub refused : not b ≡ true → toldCount (Refused 12) ≡ reportCount codes p
   refused h = rw (← tested, not-true b h)
 
-  pub passed : not b ≡ false → planInRange p ≡ true
-  passed h = sym tested ∙ not-false b h
+  pub passed : not b ≡ false → lengthsInRange p ≡ true
+  passed h =
+      let type = and-then (leb (p .«payload_type») 127) _ (sym tested ∙ not-false b h) in
+      let code = and-then (isIn codes (p .code)) _ (type .1) in
+      and-then (leb (p .volume) 63) (lengthsInRange p) (code .1) .1
 
-  pub counted : not b ≡ false → (n : ℕ) → n ≡ length (reports p) → toldCount (Reports n) ≡ reportCount p
+  pub counted : not b ≡ false → (n : ℕ) → n ≡ length (reports p) → toldCount (Reports n) ≡ reportCount codes p
   counted h n e = rw (← tested, not-false b h, e)
 
 -- A REPORT
@@ -159,7 +166,7 @@ module _ (p : Plan) (n : ℕ) (full : n ≡ fullSegments p) where
   interim-last j h r f c e = rw (← the-last j h r f) e
 
 -- no segment is longer than the size, so a multiple of the period within it fits
-units-fit : (p : Plan) → planInRange p ≡ true → (j : ℕ) → unitsAt p j ≤ 65535
+units-fit : (p : Plan) → lengthsInRange p ≡ true → (j : ℕ) → unitsAt p j ≤ 65535
 unfolding unitsAt
 units-fit p h j = go (ltb j (fullSegments p))
   where
@@ -167,7 +174,7 @@ units-fit p h j = go (ltb j (fullSegments p))
     go true = size-fits p h
     go false = rest-fits p h (restUnits p) refl
 
-module _ (p : Plan) (h : planInRange p ≡ true) (j i n : ℕ) (interim : n ≡ interimCount (p .period) (unitsAt p j)) (l : i < n) where
+module _ (p : Plan) (h : lengthsInRange p ≡ true) (j i n : ℕ) (interim : n ≡ interimCount (p .period) (unitsAt p j)) (l : i < n) where
   pub number-fits : Fits w32 (i + 1)
   number-fits = record { fits = omega (arith, interim, div-le-self (unitsAt p j - 1) (p .period), units-fit p h j) }
 
@@ -177,7 +184,7 @@ module _ (p : Plan) (h : planInRange p ≡ true) (j i n : ℕ) (interim : n ≡ 
 pub placed : (p : Plan) (i a : ℕ) → a ≡ perFull p → record { segment = i / a; index = i % a } ≡ placeOf p i
 placed p i a per = rw per
 
-module _ (p : Plan) (h : planInRange p ≡ true) (i k : ℕ) (number : i ≡ k - 1) (first : 1 ≤ k) (last : k ≤ length (reports p))
+module _ (p : Plan) (h : lengthsInRange p ≡ true) (i k : ℕ) (number : i ≡ k - 1) (first : 1 ≤ k) (last : k ≤ length (reports p))
     (at : Place) (place : at ≡ placeOf p i) where
   in-plan : i < reportTotal p
   in-plan = omega (arith, length-reports p)

@@ -6,6 +6,8 @@ ghost use lib.ListN.{length};
 ghost use Rattle.model.specs.Refusals.{toldCount, toldWrite};
 ghost use Rattle.model.specs.Plan.{fullSegments, restUnits, lengthsInRange, planInRange, reportCount, reports, reportAt, writeReport};
 ghost use Rattle.plan.specs.Formula.{interimCount, reportsIn, durationAt, placeOf, unitsAt, endedAt};
+use codes::contains;
+use model::Codes;
 use model::CountAnswer;
 use model::Plan;
 use model::Report;
@@ -39,14 +41,14 @@ fn lengths_in_range(p: Plan) -> bool
     p.period <= 65535
 }
 
-// Whether each number of the plan is in its range.
-fn in_range(p: Plan) -> bool
-    ensures { λ r. ⌜ r ≡ planInRange p ⌝ }
+// Whether each number of the plan is in its range, and its code in the set.
+fn in_range(codes: Codes, p: Plan) -> bool
+    ensures { λ r. ⌜ r ≡ planInRange codes p ⌝ }
 {
     if 127 < p.payload_type {
         return false;
     }
-    if 15 < p.code {
+    if !contains(codes, p.code) {
         return false;
     }
     if 63 < p.volume {
@@ -94,17 +96,17 @@ fn reports_in(units: u32, period: u32) -> u32
 
 // The plan's reports: each full segment has the same number, the last its own.
 fn total(p: Plan) -> u32
-    requires { ⌜ planInRange p ≡ true ⌝ }
+    requires { ⌜ lengthsInRange p ≡ true ⌝ }
     ensures { λ r. ⌜ r ≡ length (reports p) ⌝ }
 {
     full_segments(p) * reports_in(p.segment_size, p.period) + reports_in(rest_units(p), p.period)
 }
 
-// How many reports the plan has, or 12.
-pub fn report_count(p: Plan) -> CountAnswer
-    ensures { λ r. ⌜ toldCount r ≡ reportCount p ⌝ }
+// How many reports the plan has, or 12, also for a code outside the set.
+pub fn report_count(codes: Codes, p: Plan) -> CountAnswer
+    ensures { λ r. ⌜ toldCount r ≡ reportCount codes p ⌝ }
 {
-    if !in_range(p) {
+    if !in_range(codes, p) {
         return CountAnswer::Refused(model::OUT_OF_RANGE);
     }
     CountAnswer::Reports(total(p))
@@ -112,7 +114,7 @@ pub fn report_count(p: Plan) -> CountAnswer
 
 // Where report i stands, from 0: no segment has more reports than a full one, so one division tells.
 fn place_of(p: Plan, i: u32) -> Place
-    requires { ⌜ planInRange p ≡ true ⌝ }
+    requires { ⌜ lengthsInRange p ≡ true ⌝ }
     ensures { λ r. ⌜ r ≡ placeOf p i ⌝ }
 {
     let per = reports_in(p.segment_size, p.period);
@@ -124,7 +126,7 @@ fn place_of(p: Plan, i: u32) -> Place
 
 // The units of a segment: every one but the last is full.
 fn units_of(p: Plan, segment: u32) -> u32
-    requires { ⌜ planInRange p ≡ true ⌝ }
+    requires { ⌜ lengthsInRange p ≡ true ⌝ }
     ensures { λ r. ⌜ r ≡ unitsAt p segment ⌝ }
 {
     if segment < full_segments(p) {
@@ -135,7 +137,7 @@ fn units_of(p: Plan, segment: u32) -> u32
 
 // The reports of a segment before its end. Both counts are those of `total`, so that none is divided for again.
 fn interim_of(p: Plan, segment: u32) -> u32
-    requires { ⌜ planInRange p ≡ true ⌝ }
+    requires { ⌜ lengthsInRange p ≡ true ⌝ }
     ensures { λ r. ⌜ r ≡ interimCount (p .period) (unitsAt p segment) ⌝ }
 {
     if segment < full_segments(p) {
@@ -146,7 +148,7 @@ fn interim_of(p: Plan, segment: u32) -> u32
 
 // The duration a report says: the next multiple of the period, or at the end the segment's length.
 fn duration_at(p: Plan, segment: u32, index: u32) -> u32
-    requires { ⌜ planInRange p ≡ true ⌝ }
+    requires { ⌜ lengthsInRange p ≡ true ⌝ }
     ensures { λ r. ⌜ r ≡ durationAt (p .period) (unitsAt p segment) index ⌝ }
 {
     if index < interim_of(p, segment) {
@@ -157,7 +159,7 @@ fn duration_at(p: Plan, segment: u32, index: u32) -> u32
 
 // E: on the last two reports of the last segment.
 fn ended_at(p: Plan, at: Place) -> bool
-    requires { ⌜ planInRange p ≡ true ⌝ }
+    requires { ⌜ lengthsInRange p ≡ true ⌝ }
     ensures { λ r. ⌜ r ≡ endedAt p at ⌝ }
 {
     if at.segment < full_segments(p) {
@@ -182,7 +184,7 @@ fn timestamp_at(start: u32, offset: u32) -> u32
 
 // Report k of the plan, from 1: all of it follows from where the report stands.
 fn planned(p: Plan, k: u32) -> Report
-    requires { ⌜ planInRange p ≡ true ⌝ }
+    requires { ⌜ lengthsInRange p ≡ true ⌝ }
     requires { ⌜ 1 ≤ k ⌝ }
     requires { ⌜ k ≤ length (reports p) ⌝ }
     ensures { λ r. ⌜ r ≡ reportAt p k ⌝ }
@@ -203,11 +205,11 @@ fn planned(p: Plan, k: u32) -> Report
 }
 
 // Writes report k of the plan, counted from 1, at the start of the output, or refuses with 12, 13 or 14.
-pub fn write_report(p: Plan, k: u32, out: &mut [u8]) -> WriteAnswer
-    ensures { λ a. ⌜ toldWrite a ≡ writeReport p k (now (out .entry)) .answer ⌝ }
-    ensures { λ a. ⌜ now (out .exit) ≡ writeReport p k (now (out .entry)) .output ⌝ }
+pub fn write_report(codes: Codes, p: Plan, k: u32, out: &mut [u8]) -> WriteAnswer
+    ensures { λ a. ⌜ toldWrite a ≡ writeReport codes p k (now (out .entry)) .answer ⌝ }
+    ensures { λ a. ⌜ now (out .exit) ≡ writeReport codes p k (now (out .entry)) .output ⌝ }
 {
-    if !in_range(p) {
+    if !in_range(codes, p) {
         return WriteAnswer::Refused(model::OUT_OF_RANGE);
     }
     if k == 0 {
@@ -217,5 +219,5 @@ pub fn write_report(p: Plan, k: u32, out: &mut [u8]) -> WriteAnswer
         return WriteAnswer::Refused(model::NO_SUCH_NUMBER);
     }
     let r = planned(p, k);
-    writer::write(r, out)
+    writer::write(codes, r, out)
 }

@@ -6,6 +6,7 @@ use mathlib.Core.List.{List}
 use native.Mathlib.Omega.{arith}
 use borrow.Author.Needs.{needs}
 use borrow.Author.Tests.{le-leb, lt-leb}
+use Rattle.model.specs.declared.Head.{Head}
 use Rattle.model.specs.Packet.{bit, payloadRefusal}
 use Rattle.model.specs.Receive.{offset, unheard}
 use Rattle.packet.specs.declared.payload.Payload.{Payload}
@@ -18,27 +19,27 @@ use Rattle.receive.specs.Sayings.{arrival, hearingOf}
 
 -- THE WAYS THROUGH
 
-module _ (origin time : ℕ) (m : Bool) (p : List ℕ) (read : Payload) (stage : read ≡ payloadOf p) where
-  pub no-report : (n : ℕ) → read ≡ payload.Refused n → (k : ℕ) → k ≡ refusalOfPayload read → hearing.Refused k ≡ hearingOf origin (arrival time m p)
+module _ (h : Head) (time : ℕ) (m : Bool) (p : List ℕ) (read : Payload) (stage : read ≡ payloadOf (h .codes) p) where
+  pub no-report : (n : ℕ) → read ≡ payload.Refused n → (k : ℕ) → k ≡ refusalOfPayload read → hearing.Refused k ≡ hearingOf h (arrival time m p)
   unfolding hearingOf unheard
   no-report n x k y =
-      let s = unreported-says p read stage n x in
-      let same : k ≡ payloadRefusal p = y ∙ ap refusalOfPayload x ∙ s .1 in
+      let s = unreported-says (h .codes) p read stage n x in
+      let same : k ≡ payloadRefusal (h .codes) p = y ∙ ap refusalOfPayload x ∙ s .1 in
       rw (same, s .0, s .0)
 
-  module _ (c : ℕ) (e : Bool) (v d : ℕ) (x : read ≡ payload.Heard c e v d) (o : ℕ) (at : o ≡ offset origin time) where
-    says : Reported p c e v d
-    says = reported-says p read stage c e v d x
+  module _ (c : ℕ) (e : Bool) (v d : ℕ) (x : read ≡ payload.Heard c e v d) (o : ℕ) (at : o ≡ offset (h .origin) time) where
+    says : Reported (h .codes) p c e v d
+    says = reported-says (h .codes) p read stage c e v d x
 
-    pub too-far : 0x8000_0000 ≤ o → hearing.Refused 10 ≡ hearingOf origin (arrival time m p)
+    pub too-far : 0x8000_0000 ≤ o → hearing.Refused 10 ≡ hearingOf h (arrival time m p)
     unfolding hearingOf unheard
-    too-far far = rw (says .unrefused, le-leb 0x8000_0000 (offset origin time) (omega (arith, at)))
+    too-far far = rw (says .unrefused, le-leb 0x8000_0000 (offset (h .origin) time) (omega (arith, at)))
 
     pub all-heard : o < 0x8000_0000 → (key : ℕ) → key ≡ o * 256 + c → (told : ℕ) → told ≡ d + 0x1_0000 * (bit e + 2 * (bit m + 2 * v))
-        → hearing.Heard key told ≡ hearingOf origin (arrival time m p)
+        → hearing.Heard key told ≡ hearingOf h (arrival time m p)
     unfolding hearingOf unheard
     all-heard near key k told t =
-        let not-far = lt-leb 0x8000_0000 (offset origin time) (omega (arith, at)) in
+        let not-far = lt-leb 0x8000_0000 (offset (h .origin) time) (omega (arith, at)) in
         rw (says .unrefused, not-far, k, t, at, says .code-is, says .end-is, says .volume-is, says .duration-is)
 
 pub ruleset hears = (needs, no-report, too-far, all-heard)

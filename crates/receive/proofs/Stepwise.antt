@@ -57,11 +57,11 @@ module _ (h : Head) (bs : List ℕ) (f : Header) (stage : f ≡ headerFor h bs) 
   abbrev there : Header
   there = header.Found (afterHeader bs) (payloadEnd bs)
 
-  pub not-for-it : (n : ℕ) → f ≡ header.Refused n → (k : ℕ) → k ≡ refusalOfHeader f → hearing.Refused k ≡ hearingIn h bs
+  pub not-for-it : (n : ℕ) → f ≡ header.Refused n → hearing.Refused n ≡ hearingIn h bs
   unfolding headerFor hearingIn
-  not-for-it n r k e =
+  not-for-it n r =
       let s = chose-second (eqb (refusalFor h bs) 0) there (header.Refused (refusalFor h bs)) f stage (λ x. cc) in
-      let same : k ≡ refusalFor h bs = e ∙ ap refusalOfHeader (s .1) in
+      let same : n ≡ refusalFor h bs = ap refusalOfHeader (sym r ∙ s .1) in
       rw (same, s .0)
 
   module _ (start end : ℕ) (r : f ≡ header.Found start end) where
@@ -85,7 +85,7 @@ module _ (h : Head) (bs : List ℕ) (f : Header) (stage : f ≡ headerFor h bs) 
     within = ends-within bs f read start end r
 
     pub heard-it : (time : ℕ) → time ≡ timestamp bs → (m : Bool) → m ≡ marker bs → (said : Hearing)
-        → said ≡ hearingOf (h .origin) (arrival time m (take (end - start) (drop start bs))) → said ≡ hearingIn h bs
+        → said ≡ hearingOf h (arrival time m (take (end - start) (drop start bs))) → said ≡ hearingIn h bs
     unfolding hearingIn arrivalIn
     heard-it time is-time m is-m said e = e ∙ rw (payload-there bs f read start end r, is-time, is-m, unrefused)
 

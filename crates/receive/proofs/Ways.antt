@@ -5,7 +5,7 @@ use mathlib.Core.Bool.{Bool, true, false, not, cond}
 use mathlib.Core.List.{List}
 use native.Mathlib.Omega.{arith}
 use borrow.Author.Needs.{needs}
-use borrow.Author.Tests.{eqb-true, leb-true, not-true, not-false}
+use borrow.Author.Tests.{eqb-true, not-true, not-false}
 use lib.Dec.{eqb}
 use Rattle.model.specs.declared.Table.{Table}
 use Rattle.model.specs.declared.Head.{Head}
@@ -31,6 +31,7 @@ use Rattle.model.specs.Receive.{
 }
 use Rattle.model.specs.Sizes.{BytesFit}
 use Rattle.model.proofs.Basics.{both-none}
+use Rattle.model.proofs.Sets.{in-below}
 use Rattle.model.proofs.Packets.{bytes-fit, payload-in-range}
 use Rattle.model.proofs.Numbers.{segment-back}
 use Rattle.model.proofs.Looks.{hears-with-8, looks-at-8}
@@ -68,7 +69,7 @@ passed t b is ok = sym is ∙ not-false b ok
 
 module _ (t : Table) (a : Arrival) (fit : PayloadFits a) where
   abbrev refusal : ℕ
-  refusal = unheard (t .head .origin) a
+  refusal = unheard (t .head) a
 
   -- refused before the search
   refuses-it : eqb refusal 0 ≡ false → refusing refusal t 0 ≡ hear t a
@@ -92,15 +93,16 @@ module _ (t : Table) (a : Arrival) (fit : PayloadFits a) where
     same-report : segmentOf (keyOf (heardBy t a)) (heardOf (heardBy t a)) ≡ heardBy t a
     unfolding unheard heardBy
     same-report =
-        let q = payload-in-range (a .payload) fit (both-none (payloadRefusal (a .payload)) _ none .0) in
-        segment-back (heardBy t a) (omega (arith, leb-true (code (a .payload)) 15 (q .0))) (omega (arith, q .2))
+        let s = t .head .codes in
+        let q = payload-in-range s (a .payload) fit (both-none (payloadRefusal s (a .payload)) _ none .0) in
+        segment-back (heardBy t a) (in-below s (code (a .payload)) (q .0)) (omega (arith, q .2))
 
   -- what a report says, taken, is what the model hears
-  said-and-taken : takenHeard t (hearingOf (t .head .origin) a) ≡ hear t a
+  said-and-taken : takenHeard t (hearingOf (t .head) a) ≡ hear t a
   unfolding hearingOf heardBy
   said-and-taken = go (eqb refusal 0) refl
     where
-      go : (b : Bool) → eqb refusal 0 ≡ b → takenHeard t (hearingOf (t .head .origin) a) ≡ hear t a
+      go : (b : Bool) → eqb refusal 0 ≡ b → takenHeard t (hearingOf (t .head) a) ≡ hear t a
       go false e = rw e (refuses-it e)
       go true e = let none = eqb-true refusal 0 e in rw e (ap (takenInto t) (same-report none) ∙ sym (to-the-table none))
 
@@ -115,7 +117,7 @@ does h keys heard said r a keys′ heard′ both e v few small =
     record { answer = answer; table = table; passes = ap valid table ∙ v; bounded = rw answer few; small = rw answer small }
 
 module _ (h : Head) (keys heard : List ℕ) (v : valid (tableOf h keys heard) ≡ true) (time : ℕ) (m : Bool) (p : List ℕ) (fit : BytesFit p) where
-  pub hears-it : (said : Hearing) → said ≡ hearingOf (h .origin) (arrival time m p) → (a : Received) (keys′ heard′ : List ℕ)
+  pub hears-it : (said : Hearing) → said ≡ hearingOf h (arrival time m p) → (a : Received) (keys′ heard′ : List ℕ)
       → TakesHeard h keys heard said a keys′ heard′ → HearsInto h keys heard time m p a keys′ heard′
   hears-it said stage a keys′ heard′ e =
       let t = tableOf h keys heard in
@@ -135,7 +137,7 @@ module _ (h : Head) (keys heard bs : List ℕ) (v : valid (tableOf h keys heard)
   step = rw v (go (eqb (refusalFor h bs) 0))
     where
       go : (b : Bool)
-          → takenHeard t (cond b (hearingOf (h .origin) (arrivalIn bs)) (hearing.Refused (refusalFor h bs)))
+          → takenHeard t (cond b (hearingOf h (arrivalIn bs)) (hearing.Refused (refusalFor h bs)))
           ≡ cond b (hear t (arrivalIn bs)) (refusing (refusalFor h bs) t 0)
       go false = refl
       go true = said-and-taken t (arrivalIn bs) (packet-report-fits bs fit)

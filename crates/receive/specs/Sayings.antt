@@ -3,6 +3,7 @@ use Prim.Native.Nat.{ℕ}
 use mathlib.Core.Bool.{Bool, cond}
 use mathlib.Core.List.{List}
 use lib.Dec.{eqb}
+use Rattle.model.specs.declared.Head.{Head}
 use Rattle.model.specs.Refusals.{none}
 use Rattle.model.specs.Table.{keyOf, heardOf}
 use Rattle.model.specs.Receive.{Arrival, heardFrom, unheard}
@@ -13,8 +14,8 @@ use Rattle.receive.specs.declared.hearing.Hearing.the-variants as hearin
 abbrev pub arrival : ℕ → Bool → List ℕ → Arrival
 arrival timestamp marked p = record { timestamp = timestamp; marked = marked; payload = p }
 
-unfoldable pub hearingOf : ℕ → Arrival → Hearing
-hearingOf origin a =
-    cond (eqb (unheard origin a) none)
-    (hearing.Heard (keyOf (heardFrom origin a)) (heardOf (heardFrom origin a)))
-    (hearing.Refused (unheard origin a))
+unfoldable pub hearingOf : Head → Arrival → Hearing
+hearingOf h a =
+    cond (eqb (unheard h a) none)
+    (hearing.Heard (keyOf (heardFrom (h .origin) a)) (heardOf (heardFrom (h .origin) a)))
+    (hearing.Refused (unheard h a))

@@ -25,7 +25,7 @@ headerFor h bs = cond (eqb (refusalFor h bs) none) (header.Found (afterHeader bs
 
 -- then 17 or 7, and 8 to 10
 unfoldable pub hearingIn : Head → List ℕ → Hearing
-hearingIn h bs = cond (eqb (refusalFor h bs) none) (hearingOf (h .origin) (arrivalIn bs)) (hearing.Refused (refusalFor h bs))
+hearingIn h bs = cond (eqb (refusalFor h bs) none) (hearingOf h (arrivalIn bs)) (hearing.Refused (refusalFor h bs))
 
 -- then 11
 abbrev pub takenHeard : Table → Hearing → Receiving

@@ -1,7 +1,8 @@
-// What a payload says, at its timestamp and with its marker, as it is heard from an origin. No table takes part.
+// What a payload says, at its timestamp and with its marker, as a table with this head hears it. No segment takes part.
 ghost use mathlib.Core.Path.{_≡_};
 ghost use Rattle.model.specs.Receive.{offset};
 ghost use Rattle.receive.specs.Sayings.{arrival, hearingOf};
+use model::Head;
 use packet::payload::Payload;
 use packet::payload::payload_of;
 use packet::payload::payload_refusal;
@@ -24,11 +25,11 @@ pub fn minus(timestamp: u32, n: u32) -> u32
     timestamp + (0xffff_ffff - n) + 1
 }
 
-// Hears a payload, or refuses it with 17 or 7, or with 8 to 10.
-pub fn hear(origin: u32, timestamp: u32, marked: bool, payload: &[u8]) -> Hearing
-    ensures { λ r. ⌜ r ≡ hearingOf origin (arrival timestamp marked (now (payload .entry))) ⌝ }
+// Hears a payload, or refuses it with 17 or 7, with 8 if its code is not in the table's set, or with 9 or 10.
+pub fn hear(head: Head, timestamp: u32, marked: bool, payload: &[u8]) -> Hearing
+    ensures { λ r. ⌜ r ≡ hearingOf head (arrival timestamp marked (now (payload .entry))) ⌝ }
 {
-    let read = payload_of(payload);
+    let read = payload_of(head.codes, payload);
     let Payload::Heard {
         code,
         ended,
@@ -38,7 +39,7 @@ pub fn hear(origin: u32, timestamp: u32, marked: bool, payload: &[u8]) -> Hearin
     else {
         return Hearing::Refused(payload_refusal(read));
     };
-    let offset = minus(timestamp, origin);
+    let offset = minus(timestamp, head.origin);
     if 0x8000_0000 <= offset {
         return Hearing::Refused(model::OFFSET_TOO_LARGE);
     }

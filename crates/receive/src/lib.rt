@@ -14,6 +14,7 @@ use model::Head;
 use model::Received;
 use steps::header_for;
 use steps::hear_in;
+use steps::passes;
 use steps::take_heard;
 use table::refused;
 
@@ -31,7 +32,7 @@ pub fn hear_into(
     ensures { λ r. ⌜ HearsInto head (now (keys .entry)) (now (heard .entry)) timestamp marked (now (payload .entry))
         r (now (keys .exit)) (now (heard .exit)) ⌝ }
 {
-    let said = hear(head.origin, timestamp, marked, payload);
+    let said = hear(head, timestamp, marked, payload);
     take_heard(head, keys, heard, said)
 }
 
@@ -59,7 +60,7 @@ pub fn receive(head: Head, keys: &mut [u64; 128], heard: &mut [u32; 128], packet
         ≡ receive (tableOf head (now (keys .entry)) (now (heard .entry))) (now (packet .entry)) .table ⌝ }
     ensures { λ r. ⌜ r .probes ≤ 8 ⌝ }
 {
-    if !valid::is_valid(head, keys, heard) {
+    if !passes(head, keys, heard) {
         return refused(model::INVALID_TABLE, head.count);
     }
     let found = header_for(head, packet);

@@ -37,7 +37,7 @@ fn receive_all(head: Head, keys: &mut [u64; 128], heard: &mut [u32; 128]) -> Hea
 
 // The table after every row's packet.
 fn table() -> Table {
-    let o = table::open(table5::PAYLOAD_TYPE, table5::SSRC, 0);
+    let o = table::open(codes::keys(), table5::PAYLOAD_TYPE, table5::SSRC, 0);
     let t = o.table;
     let mut keys = t.keys;
     let mut heard = t.heard;

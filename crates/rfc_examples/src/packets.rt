@@ -7,13 +7,13 @@ use model::Report;
 // The packet of a report.
 pub fn packet_of(r: Report) -> [u8; 16] {
     let mut out = [0u8; 16];
-    writer::write(r, &mut out[0..16]);
+    writer::write(codes::keys(), r, &mut out[0..16]);
     out
 }
 
 // What reading a packet answers.
 pub fn read(b: [u8; 16]) -> ReadAnswer {
-    packet::read(&b[0..16])
+    packet::read(codes::keys(), &b[0..16])
 }
 
 // What receiving a packet into a table answers.

@@ -44,7 +44,7 @@ fn planned(sequence: u16) -> [u8; 16] {
     let mut out = [0u8; 16];
     if p.sequence <= sequence {
         let k = (sequence - p.sequence) as u32 + 1;
-        plan::write_report(p, k, &mut out[0..16]);
+        plan::write_report(codes::keys(), p, k, &mut out[0..16]);
     }
     out
 }
@@ -86,7 +86,7 @@ fn compared(i: usize) {
 
 // Prints how many reports the plan of a digit has; Table 5 has 6, 7 and 7.
 fn counted(sequence: u16) {
-    let a = plan::report_count(plan_of(sequence));
+    let a = plan::report_count(codes::keys(), plan_of(sequence));
     show::text(b"reports planned");
     match a {
         CountAnswer::Reports(n) => show::number(n),

@@ -75,7 +75,7 @@ fn same(a: ReadAnswer, b: ReadAnswer) -> bool {
 
 // One packet more: both readers read it.
 fn counted(mut t: Tally, s: &[u8]) -> Tally {
-    let a = packet::read(s);
+    let a = packet::read(codes::keys(), s);
     if !same(a, reader::read(s)) {
         t.differed = std::num::wrapping_add_u32(t.differed, 1);
     }

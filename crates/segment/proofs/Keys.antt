@@ -1,4 +1,4 @@
--- The order of segments as an order of their keys, and the numbers of a segment within its ranges or of two reports together.
+-- The order of segments as an order of their keys, and the numbers of a segment or of two reports together.
 use Prim.Native.Nat.{ℕ, _+_, _*_, _/_, _%_, _≤_, _<_, min, max}
 use mathlib.Core.Path.{_≡_, refl, sym, _∙_}
 use mathlib.Core.Bool.{Bool, true, false, _&&_, _||_}
@@ -12,9 +12,9 @@ use mir.Syntax.{w8, w32}
 use Rattle.model.specs.declared.Segment.{Segment}
 use Rattle.model.specs.Packet.{bit}
 use Rattle.model.specs.Segments.{before, merge}
-use Rattle.model.specs.Table.{keyOf, heardOf, segmentOf, validSegment}
+use Rattle.model.specs.Table.{keyOf, heardOf, segmentOf}
 use Rattle.model.proofs.Numbers.{bit-of-test}
-use Rattle.model.proofs.Tables.{valid-then}
+use Rattle.segment.specs.Widths.{Narrow}
 
 -- THE ORDER
 
@@ -28,12 +28,12 @@ before-key r s h k = go (ltb (r .offset) (s .offset)) (eqb (r .offset) (s .offse
     go false true false p q u = sym (le-ltb (keyOf r) (keyOf s) (omega (arith, ltb-false, eqb-true)))
     go false false c p q u = sym (le-ltb (keyOf r) (keyOf s) (omega (arith, ltb-false, eqb-false)))
 
--- the fields of a segment within its ranges have the widths of their types
-pub offset-fits : (k w : ℕ) → validSegment (segmentOf k w) ≡ true → Fits w32 (k / 256)
-offset-fits k w v = record { fits = omega (arith, valid-then (segmentOf k w) v .offset) }
+-- the fields have the widths of their types
+pub offset-fits : (k w : ℕ) → Narrow k w → Fits w32 (k / 256)
+offset-fits k w v = record { fits = omega (arith, v .offset) }
 
-pub volume-fits : (k w : ℕ) → validSegment (segmentOf k w) ≡ true → Fits w8 (w / 0x4_0000)
-volume-fits k w v = record { fits = omega (arith, valid-then (segmentOf k w) v .volume) }
+pub volume-fits : (k w : ℕ) → Narrow k w → Fits w8 (w / 0x4_0000)
+volume-fits k w v = record { fits = omega (arith, v .volume) }
 
 -- TWO REPORTS IN ONE NUMBER
 

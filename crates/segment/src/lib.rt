@@ -4,8 +4,9 @@ ghost use mathlib.Core.Bool.{true};
 ghost use Prim.Native.Nat.{_+_, _*_, _≤_, min, max};
 ghost use lib.Bits.{bitOr};
 ghost use Rattle.model.specs.Packet.{bit};
-ghost use Rattle.model.specs.Table.{segmentOf, validSegment};
+ghost use Rattle.model.specs.Table.{segmentOf};
 ghost use Rattle.segment.specs.Merged.{mergedHeard};
+ghost use Rattle.segment.specs.Widths.{Narrow};
 use model::Segment;
 
 // The key of an offset and a code.
@@ -81,9 +82,9 @@ pub fn merged(told: u32, held: u32) -> u32
     joined(duration, flags, volume)
 }
 
-// The segment of two numbers, for one within its ranges.
+// The segment of two numbers, if its fields have the widths of their types.
 pub fn segment_of(key: u64, heard: u32) -> Segment
-    requires { ⌜ validSegment (segmentOf key heard) ≡ true ⌝ }
+    requires { ⌜ Narrow key heard ⌝ }
     ensures { λ r. ⌜ r ≡ segmentOf key heard ⌝ }
 {
     Segment {

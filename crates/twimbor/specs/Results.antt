@@ -6,6 +6,10 @@ use Rattle.twimbor.specs.declared.ReadResult.{ReadResult}
 use Rattle.model.specs.declared.Event.{Event}
 use Rattle.twimbor.specs.declared.CountResult.{CountResult}
 use Rattle.twimbor.specs.declared.EventResult.{EventResult}
+use Rattle.model.specs.declared.Codes.{Codes}
+use Rattle.twimbor.specs.declared.sets.CodesResult.{CodesResult}
+use Rattle.twimbor.specs.declared.sets.TextResult.{TextResult}
+use Rattle.twimbor.specs.declared.sets.LowestResult.{LowestResult}
 
 abbrev pub readResult : Told Report → ReadResult
 readResult t = record { refusal = t .number; report = t .values }
@@ -15,3 +19,12 @@ countResult t = record { refusal = t .number; reports = t .values }
 
 abbrev pub eventResult : Told Event → EventResult
 eventResult t = record { event = t .values; refusal = t .number }
+
+abbrev pub codesResult : Told Codes → CodesResult
+codesResult t = record { codes = t .values; refusal = t .number }
+
+abbrev pub textResult : Told ℕ → TextResult
+textResult t = record { bytes = t .values; refusal = t .number }
+
+abbrev pub lowestResult : Told ℕ → LowestResult
+lowestResult t = record { code = t .values; refusal = t .number }

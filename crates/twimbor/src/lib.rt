@@ -13,9 +13,13 @@ ghost use Rattle.model.specs.WriteRedundant.{writeRedundant};
 ghost use Rattle.model.specs.Capture.{receiveCapture};
 ghost use Rattle.model.specs.List.{eventAt, list};
 ghost use Rattle.twimbor.specs.Results.{readResult, countResult, eventResult};
+
+pub mod sets;
+
 use model::BlockStep;
 use model::BlocksReceived;
 use model::Captured;
+use model::Codes;
 use model::CountAnswer;
 use model::Cursor;
 use model::Event;
@@ -81,12 +85,12 @@ fn no_event() -> Event
     }
 }
 
-// Reads a packet: refusal 1, 2, 3, 4, 7, 8 or 9, or the report that it carries.
+// Reads a packet: refusal 1, 2, 3, 4, 17 or 7, 8 if its code is not in the set, or 9, or the report that it carries.
 #[no_mangle]
-pub extern "C" fn twimbor_read(s: &[u8]) -> ReadResult
-    ensures { λ r. ⌜ r ≡ readResult (read (now (s .entry))) ⌝ }
+pub extern "C" fn twimbor_read(codes: Codes, s: &[u8]) -> ReadResult
+    ensures { λ r. ⌜ r ≡ readResult (read codes (now (s .entry))) ⌝ }
 {
-    let a = packet::read(s);
+    let a = packet::read(codes, s);
     match a {
         ReadAnswer::Read(r) => ReadResult {
             report: r,
@@ -99,25 +103,26 @@ pub extern "C" fn twimbor_read(s: &[u8]) -> ReadResult
     }
 }
 
-// Writes a report's 16 bytes at the start of the output, or answers 12 or 14 and leaves the output as it is.
+// Writes a report's 16 bytes at the start of the output, or answers 12, also for a code outside the set, or 14, and leaves the output
+// as it is.
 #[no_mangle]
-pub extern "C" fn twimbor_write(r: Report, out: &mut [u8]) -> u8
-    ensures { λ n. ⌜ n ≡ write r (now (out .entry)) .answer .number ⌝ }
-    ensures { λ n. ⌜ now (out .exit) ≡ write r (now (out .entry)) .output ⌝ }
+pub extern "C" fn twimbor_write(codes: Codes, r: Report, out: &mut [u8]) -> u8
+    ensures { λ n. ⌜ n ≡ write codes r (now (out .entry)) .answer .number ⌝ }
+    ensures { λ n. ⌜ now (out .exit) ≡ write codes r (now (out .entry)) .output ⌝ }
 {
-    let a = writer::write(r, out);
+    let a = writer::write(codes, r, out);
     match a {
         WriteAnswer::Written => 0,
         WriteAnswer::Refused(n) => n,
     }
 }
 
-// How many reports a plan has, or 12.
+// How many reports a plan has, or 12, also for a code outside the set.
 #[no_mangle]
-pub extern "C" fn twimbor_report_count(p: Plan) -> CountResult
-    ensures { λ r. ⌜ r ≡ countResult (reportCount p) ⌝ }
+pub extern "C" fn twimbor_report_count(codes: Codes, p: Plan) -> CountResult
+    ensures { λ r. ⌜ r ≡ countResult (reportCount codes p) ⌝ }
 {
-    let a = plan::report_count(p);
+    let a = plan::report_count(codes, p);
     match a {
         CountAnswer::Reports(n) => CountResult {
             reports: n,
@@ -132,37 +137,44 @@ pub extern "C" fn twimbor_report_count(p: Plan) -> CountResult
 
 // Writes report k of a plan, counted from 1, at the start of the output, or answers 12, 13 or 14.
 #[no_mangle]
-pub extern "C" fn twimbor_write_report(p: Plan, k: u32, out: &mut [u8]) -> u8
-    ensures { λ n. ⌜ n ≡ writeReport p k (now (out .entry)) .answer .number ⌝ }
-    ensures { λ n. ⌜ now (out .exit) ≡ writeReport p k (now (out .entry)) .output ⌝ }
+pub extern "C" fn twimbor_write_report(codes: Codes, p: Plan, k: u32, out: &mut [u8]) -> u8
+    ensures { λ n. ⌜ n ≡ writeReport codes p k (now (out .entry)) .answer .number ⌝ }
+    ensures { λ n. ⌜ now (out .exit) ≡ writeReport codes p k (now (out .entry)) .output ⌝ }
 {
-    let a = plan::write_report(p, k, out);
+    let a = plan::write_report(codes, p, k, out);
     match a {
         WriteAnswer::Written => 0,
         WriteAnswer::Refused(number) => number,
     }
 }
 
-// An empty table for one payload type and SSRC, or 12 with a table of zeros if the payload type is above 127.
+// An empty table for the codes of a set, one payload type and SSRC, or 12 with a table of zeros if the set is empty or the payload
+// type above 127.
 #[no_mangle]
-pub extern "C" fn twimbor_open_table(payload_type: u32, ssrc: u32, origin: u32) -> Opened
-    ensures { λ r. ⌜ r ≡ opened «payload_type» ssrc origin ⌝ }
+pub extern "C" fn twimbor_open_table(
+    codes: Codes,
+    payload_type: u32,
+    ssrc: u32,
+    origin: u32,
+) -> Opened
+    ensures { λ r. ⌜ r ≡ opened codes «payload_type» ssrc origin ⌝ }
 {
-    table::open(payload_type, ssrc, origin)
+    table::open(codes, payload_type, ssrc, origin)
 }
 
-// An empty table for the event's payload type, that of redundant packets and one SSRC, or 12 with a table of zeros if one of the
-// types is above 127 or they are equal.
+// An empty table for the codes of a set, the event's payload type, that of redundant packets and one SSRC, or 12 with a table of zeros
+// if the set is empty, one of the types above 127, or they are equal.
 #[no_mangle]
 pub extern "C" fn twimbor_open_redundant_table(
+    codes: Codes,
     payload_type: u32,
     redundant_type: u32,
     ssrc: u32,
     origin: u32,
 ) -> Opened
-    ensures { λ r. ⌜ r ≡ openedBoth «payload_type» «redundant_type» ssrc origin ⌝ }
+    ensures { λ r. ⌜ r ≡ openedBoth codes «payload_type» «redundant_type» ssrc origin ⌝ }
 {
-    table::open_redundant(payload_type, redundant_type, ssrc, origin)
+    table::open_redundant(codes, payload_type, redundant_type, ssrc, origin)
 }
 
 // Whether a table passes the tests of refusal 16.
@@ -247,9 +259,10 @@ pub extern "C" fn twimbor_block_step(packet: &[u8], cursor: Cursor) -> BlockStep
 }
 
 // Writes a redundant packet of a report and of 0, 1 or 2 older ones, which stand before it in the order given, at the start of the
-// output, or answers 12 or 14 and leaves the output as it is.
+// output, or answers 12, also for a code outside the set, or 14, and leaves the output as it is.
 #[no_mangle]
 pub extern "C" fn twimbor_write_redundant(
+    codes: Codes,
     r: Report,
     redundant_type: u32,
     count: u32,
@@ -257,10 +270,10 @@ pub extern "C" fn twimbor_write_redundant(
     second: OlderReport,
     out: &mut [u8],
 ) -> u8
-    ensures { λ n. ⌜ n ≡ writeRedundant r «redundant_type» count first second (now (out .entry)) .answer .number ⌝ }
-    ensures { λ n. ⌜ now (out .exit) ≡ writeRedundant r «redundant_type» count first second (now (out .entry)) .output ⌝ }
+    ensures { λ n. ⌜ n ≡ writeRedundant codes r «redundant_type» count first second (now (out .entry)) .answer .number ⌝ }
+    ensures { λ n. ⌜ now (out .exit) ≡ writeRedundant codes r «redundant_type» count first second (now (out .entry)) .output ⌝ }
 {
-    let a = block_writer::write_redundant(r, redundant_type, count, first, second, out);
+    let a = block_writer::write_redundant(codes, r, redundant_type, count, first, second, out);
     match a {
         WriteAnswer::Written => 0,
         WriteAnswer::Refused(refusal) => refusal,

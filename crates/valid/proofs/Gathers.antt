@@ -1,8 +1,8 @@
 -- The tests of a column in one pass that decides nothing on its way. `or` gathers the bits of many numbers, and it is below a
 -- power of two exactly if all of them are.
 use Prim.Native.Nat.{ℕ, _+_, _-_, _%_, _^_, _≤_, _<_}
-use mathlib.Core.Path.{_≡_, refl}
-use mathlib.Core.Bool.{true, false, false≢true}
+use mathlib.Core.Path.{_≡_}
+use mathlib.Core.Bool.{false, false≢true}
 use mathlib.Core.List.{List}
 use mathlib.Core.Logic.{⊎-elim}
 use native.Mathlib.Nat.{eq-or-lt-of-le}
@@ -11,7 +11,7 @@ use borrow.Author.Tests.{lt-ltb, ltb-true}
 use lib.Bits.{bitOr, or-lt, or-mod, or-add-and, and-le-l, and-le-r}
 use lib.Dec.{ltb}
 use lib.ListN.{getD}
-use Rattle.valid.specs.Passes.{KeysPass, HeardPass, Tells}
+use Rattle.valid.specs.Passes.{KeysPass, HeardPass, Tells, Ranks}
 
 -- GATHERED BITS
 
@@ -21,16 +21,15 @@ or-above-l a b = omega (arith, or-add-and a b, and-le-r a b)
 or-above-r : (a b : ℕ) → b ≤ bitOr a b
 or-above-r a b = omega (arith, or-add-and a b, and-le-l a b)
 
-codes-both : (a b : ℕ) → a % 256 ≤ 15 → b % 256 ≤ 15 → bitOr a b % 256 ≤ 15
-codes-both a b h k = rw (or-mod a b 8) (omega (arith, or-lt 4 (a % 256) (b % 256) (omega arith) (omega arith)))
+-- the highest of the codes so far is at most what is gathered of them
+codes-under-l : (a b : ℕ) → a % 256 ≤ bitOr a b % 256
+codes-under-l a b = rw (or-mod a b 8) (or-above-l (a % 256) (b % 256))
 
-codes-each : (a b : ℕ) → bitOr a b % 256 ≤ 15 → (a % 256 ≤ 15) × (b % 256 ≤ 15)
-codes-each a b h =
-    let k : bitOr (a % 256) (b % 256) ≤ 15 = rw (or-mod a b 8) at h in
-    (omega (arith, or-above-l (a % 256) (b % 256)), omega (arith, or-above-r (a % 256) (b % 256)))
+codes-under-r : (a b : ℕ) → b % 256 ≤ bitOr a b % 256
+codes-under-r a b = rw (or-mod a b 8) (or-above-r (a % 256) (b % 256))
 
 -- one place more
-one-more : (P : ℕ → Type 0) (i : ℕ) → ((j : ℕ) → j < i → P j) → P i → (j : ℕ) → j < i + 1 → P j
+pub one-more : (P : ℕ → Type 0) (i : ℕ) → ((j : ℕ) → j < i → P j) → P i → (j : ℕ) → j < i + 1 → P j
 one-more P i f p j h = ⊎-elim (λ e. rw e p) (λ l. f j l) (eq-or-lt-of-le (upto j h))
   where
     upto : (j : ℕ) → j < i + 1 → j ≤ i
@@ -39,9 +38,6 @@ one-more P i f p j h = ⊎-elim (λ e. rw e p) (λ l. f j l) (eq-or-lt-of-le (up
 abbrev Below : List ℕ → ℕ → ℕ → Type 0
 Below column i limit = (j : ℕ) → j < i → getD column j 0 < limit
 
-abbrev Coded : List ℕ → ℕ → Type 0
-Coded keys i = (j : ℕ) → j < i → getD keys j 0 % 256 ≤ 15
-
 abbrev Rises : List ℕ → ℕ → Type 0
 Rises keys i = (j : ℕ) → j + 1 < i → getD keys j 0 < getD keys (j + 1) 0
 
@@ -49,8 +45,11 @@ abbrev Lasts : List ℕ → ℕ → Type 0
 Lasts heard i = (j : ℕ) → j < i → 1 ≤ getD heard j 0 % 0x1_0000
 
 -- what holds of no places is told by `true`, and what cannot hold by `false`
-told-no : {P : Type 0} → (P → ⊥) → Tells false P
+pub told-no : {P : Type 0} → (P → ⊥) → Tells false P
 told-no n = record { then = λ e. absurd (false≢true e); if = λ p. absurd (n p) }
+
+pub ranks-none : {keys : List ℕ} {n : ℕ} → (KeysPass keys n → ⊥) → Ranks keys n 256
+ranks-none f = record { pass = λ x. absurd (omega arith); most = λ x. absurd (omega arith); fail = λ x. f }
 
 -- THE KEYS
 
@@ -60,8 +59,7 @@ pub record Keyed (keys : List ℕ) (n i bits falls : ℕ) : Type 0 where
   pub upto : i ≤ n
   pub near-then : bits < 0x80_0000_0000 → Below keys i 0x80_0000_0000
   pub near-if : Below keys i 0x80_0000_0000 → bits < 0x80_0000_0000
-  pub coded-then : bits % 256 ≤ 15 → Coded keys i
-  pub coded-if : Coded keys i → bits % 256 ≤ 15
+  pub coded : (j : ℕ) → j < i → getD keys j 0 % 256 ≤ bits % 256
   pub rise-then : bits < 0x80_0000_0000 → falls < 0x8000_0000_0000_0000 → Rises keys i
   pub rise-if : Below keys i 0x80_0000_0000 → Rises keys i → falls < 0x8000_0000_0000_0000
 
@@ -84,8 +82,7 @@ module _ (keys : List ℕ) (n : ℕ) where
     upto = omega arith;
     near-then = first-only (λ k. k < 0x80_0000_0000);
     near-if = λ f. f 0 (omega arith);
-    coded-then = first-only (λ k. k % 256 ≤ 15);
-    coded-if = λ f. f 0 (omega arith);
+    coded = first-only (λ k. k % 256 ≤ getD keys 0 0 % 256) (omega arith);
     rise-then = λ a b j l. absurd (omega arith);
     rise-if = λ a b. omega arith;
   }
@@ -114,8 +111,8 @@ module _ (keys : List ℕ) (n : ℕ) where
         upto = omega arith;
         near-then = λ h. one-more (λ j. getD keys j 0 < 0x80_0000_0000) i (w .near-then (fewer h)) (omega (arith, or-above-r bits key));
         near-if = λ f. or-lt 39 bits key (w .near-if (λ j l. f j (omega arith))) (f i (omega arith));
-        coded-then = λ h. let c = codes-each bits key h in one-more (λ j. getD keys j 0 % 256 ≤ 15) i (w .coded-then (c .0)) (c .1);
-        coded-if = λ f. codes-both bits key (w .coded-if (λ j l. f j (omega arith))) (f i (omega arith));
+        coded = one-more (λ j. getD keys j 0 % 256 ≤ bitOr bits key % 256) i
+            (λ j l. omega (arith, w .coded j l, codes-under-l bits key)) (codes-under-r bits key);
         rise-then = λ h g. rises-on (w .rise-then (fewer h) (omega (arith, or-above-l falls e)))
             (above (getD keys (i - 1) 0) key d e p q s t (w .near-then (fewer h) (i - 1) last) (omega (arith, or-above-r bits key))
             (omega (arith, or-above-r falls e)));
@@ -132,27 +129,25 @@ module _ (keys : List ℕ) (n : ℕ) where
       all : i ≡ n
       all = omega (arith, w .upto)
 
-      pub key-too-far : 0x80_0000_0000 ≤ bits → Tells false (KeysPass keys n)
-      key-too-far h = told-no (λ k. omega (arith, w .near-if (rw all (k .near))))
+      pub key-too-far : 0x80_0000_0000 ≤ bits → Ranks keys n 256
+      key-too-far h = ranks-none (λ k. omega (arith, w .near-if (rw all (k .near))))
 
       module _ (near : bits < 0x80_0000_0000) where
-        pub key-no-code : 15 < bits % 256 → Tells false (KeysPass keys n)
-        key-no-code h = told-no (λ k. omega (arith, w .coded-if (rw all (k .coded))))
+        pub keys-fall : 0x8000_0000_0000_0000 ≤ falls → Ranks keys n 256
+        keys-fall h = ranks-none (λ k. omega (arith, w .rise-if (rw all (k .near)) (rw all (k .rise))))
 
-        pub keys-by-falls : bits % 256 ≤ 15 → Tells (ltb falls 0x8000_0000_0000_0000) (KeysPass keys n)
-        keys-by-falls h = record {
-          then = λ e. record {
-            near = rw all at (w .near-then near);
-            coded = rw all at (w .coded-then h);
-            rise = rw all at (w .rise-then near (ltb-true falls 0x8000_0000_0000_0000 e));
-          };
-          if = λ k. lt-ltb falls 0x8000_0000_0000_0000 (w .rise-if (rw all (k .near)) (rw all (k .rise)));
+        pub keys-rise : falls < 0x8000_0000_0000_0000 → Ranks keys n (bits % 256)
+        keys-rise h = record {
+          pass = λ x. record { near = rw all at (w .near-then near); rise = rw all at (w .rise-then near h) };
+          most = λ x. record { each = rw all at (w .coded) };
+          fail = λ x. absurd (omega arith);
         }
 
-pub no-keys : (keys : List ℕ) (n : ℕ) → n ≡ 0 → Tells true (KeysPass keys n)
+pub no-keys : (keys : List ℕ) (n : ℕ) → n ≡ 0 → Ranks keys n 0
 no-keys keys n e = record {
-  then = λ x. record { near = λ i h. absurd (omega arith); coded = λ i h. absurd (omega arith); rise = λ i h. absurd (omega arith) };
-  if = λ k. refl;
+  pass = λ x. record { near = λ i h. absurd (omega arith); rise = λ i h. absurd (omega arith) };
+  most = λ x. record { each = λ i h. absurd (omega arith) };
+  fail = λ x. absurd (omega arith);
 }
 
 -- WHAT WAS HEARD

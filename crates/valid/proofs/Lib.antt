@@ -1,3 +1,4 @@
 pub mod Gathers
+pub mod Coded
 pub mod Tests
 pub mod Laws

@@ -1,7 +1,7 @@
 -- The tests of refusal 16: a table passes them exactly if its head and each of its columns does.
 use Prim.Native.Nat.{ℕ, _+_, _%_, _≤_, _<_}
 use mathlib.Core.Path.{_≡_, refl, sym, _∙_}
-use mathlib.Core.Bool.{Bool, true, false, not, cond, and-false}
+use mathlib.Core.Bool.{Bool, true, false, not, cond, and-false, false≢true}
 use mathlib.Core.List.{List}
 use native.Mathlib.Omega.{arith}
 use borrow.Author.Tests.{eq-eqb, ne-eqb, lt-ltb, ltb-true, le-leb, lt-leb, leb-true, not-true, not-false}
@@ -16,7 +16,8 @@ use Rattle.model.proofs.Order.{_≺_, before-if}
 use Rattle.model.proofs.Numbers.{key-back}
 use Rattle.model.proofs.Places.{entries-rise}
 use Rattle.model.proofs.Tables.{ValidSegment, valid-then, valid-if, tests-passed, held-length, held-at, valid-from, all-valid-from, rising-from}
-use Rattle.valid.specs.Passes.{KeysPass, HeardPass, Tells}
+use Rattle.valid.specs.Passes.{CodesPass, KeysPass, HeardPass, Tells, Ranks, Highest}
+use Rattle.valid.proofs.Coded.{all-are-low}
 use Rattle.segment.proofs.Keys.{before-key}
 
 pub too-many : (t : Table) → 128 < t .head .count → false ≡ valid t
@@ -48,23 +49,24 @@ module _ (h : Head) where
 pub wrong-types : (t : Table) → t .head .count ≤ 128 → (b : Bool) → b ≡ validTypes (t .head) → not b ≡ true → false ≡ valid t
 unfolding valid
 wrong-types t h b is k =
-    rw (le-leb (t .head .count) 128 h, sym is ∙ not-true b k, and-false (allValid (held t)), and-false (rising (held t)))
+    rw (le-leb (t .head .count) 128 h, sym is ∙ not-true b k, and-false (allValid (t .head .codes) (held t)), and-false (rising (held t)))
 
 -- THE COLUMNS
 
--- both columns pass exactly if the segments held do
+-- a table passes all tests but that of its codes
 module _ (h : Head) (keys heard : List ℕ) where
   abbrev table : Table
   table = tableOf h keys heard
 
   module _ (v : valid table ≡ true) where
-    at-place : (i : ℕ) → i < h .count → ValidSegment (segmentAt keys heard i)
-    at-place i l = valid-then (segmentAt keys heard i) (valid-from keys heard (h .count) 0 (tests-passed table v .each) i (omega arith) (omega arith))
+    at-place : (i : ℕ) → i < h .count → ValidSegment (h .codes) (segmentAt keys heard i)
+    at-place i l =
+        valid-then (h .codes) (segmentAt keys heard i)
+        (valid-from (h .codes) keys heard (h .count) 0 (tests-passed table v .each) i (omega arith) (omega arith))
 
     valid-keys : KeysPass keys (h .count)
     valid-keys = record {
       near = λ i l. omega (arith, at-place i l .offset);
-      coded = λ i l. leb-true (getD keys i 0 % 256) 15 (at-place i l .code);
       rise = λ i l. rw (key-back (getD keys i 0) (getD heard i 0), key-back (getD keys (i + 1) 0) (getD heard (i + 1) 0)) at (keys-rise i l);
     }
       where
@@ -80,11 +82,14 @@ module _ (h : Head) (keys heard : List ℕ) where
     valid-heard : HeardPass heard (h .count)
     valid-heard = record { long = λ i l. at-place i l .some; loud = λ i l. omega (arith, at-place i l .volume) }
 
+    valid-codes : CodesPass (h .codes) keys (h .count)
+    valid-codes = record { each = λ i l. at-place i l .code }
+
   module _ (k : KeysPass keys (h .count)) (w : HeardPass heard (h .count)) where
-    place-valid : (i : ℕ) → i < h .count → validSegment (segmentAt keys heard i) ≡ true
-    place-valid i l = valid-if (segmentAt keys heard i) (record {
+    place-valid : CodesPass (h .codes) keys (h .count) → (i : ℕ) → i < h .count → validSegment (h .codes) (segmentAt keys heard i) ≡ true
+    place-valid c i l = valid-if (h .codes) (segmentAt keys heard i) (record {
       offset = omega (arith, k .near i l);
-      code = le-leb (getD keys i 0 % 256) 15 (k .coded i l);
+      code = c .each i l;
       some = w .long i l;
       duration = omega arith;
       volume = omega (arith, w .loud i l);
@@ -95,28 +100,62 @@ module _ (h : Head) (keys heard : List ℕ) where
         before-key (segmentAt keys heard i) (segmentAt keys heard (i + 1)) (omega arith) (omega arith)
         ∙ lt-ltb _ _ (rw (← key-back (getD keys i 0) (getD heard i 0), ← key-back (getD keys (i + 1) 0) (getD heard (i + 1) 0)) at (k .rise i l))
 
-    both-pass : h .count ≤ 128 → validTypes h ≡ true → valid table ≡ true
+    all-pass : h .count ≤ 128 → validTypes h ≡ true → CodesPass (h .codes) keys (h .count) → valid table ≡ true
     unfolding valid
-    both-pass few types =
+    all-pass few types c =
         and-both (le-leb (h .count) 128 few) (and-both (rising-from keys heard (h .count) 0 (λ i a b. place-rises i (omega arith)))
-        (and-both (all-valid-from keys heard (h .count) 0 (λ i a b. place-valid i (omega arith))) types))
+        (and-both (all-valid-from (h .codes) keys heard (h .count) 0 (λ i a b. place-valid c i (omega arith))) types))
 
-  -- 16 if a column fails
-  fails : (P : Type 0) (b : Bool) → Tells b P → b ≡ false → (valid table ≡ true → P) → false ≡ valid table
-  fails P b t e f = go (valid table) refl
+  -- 16 if a table fails a test that is asked of it
+  fails-unless : (P : Type 0) → (valid table ≡ true → P) → (P → ⊥) → false ≡ valid table
+  fails-unless P f n = go (valid table) refl
     where
       go : (v : Bool) → valid table ≡ v → false ≡ v
-      go true q = sym e ∙ t .if (f q)
+      go true q = absurd (n (f q))
       go false q = refl
 
-  module _ (b : Bool) (t : Tells b (KeysPass keys (h .count))) where
-    pub keys-fail : not b ≡ true → false ≡ valid table
-    keys-fail x = fails (KeysPass keys (h .count)) b t (not-true b x) valid-keys
+  failing : false ≡ valid table → Highest table 256
+  failing e = record {
+    few = λ x. absurd (omega arith);
+    most = λ x. absurd (omega arith);
+    decides = λ x. absurd (omega arith);
+    fails = λ x. e;
+  }
 
-    pub by-heard : not b ≡ false → h .count ≤ 128 → (d : Bool) → d ≡ validTypes h → not d ≡ false
-        → (c : Bool) → Tells c (HeardPass heard (h .count)) → c ≡ valid table
-    by-heard x few d is y c u = go c refl
-      where
-        go : (d : Bool) → c ≡ d → d ≡ valid table
-        go true e = sym (both-pass (t .then (not-false b x)) (u .then e) few (sym is ∙ not-false d y))
-        go false e = fails (HeardPass heard (h .count)) c u e valid-heard
+  pub too-many-held : 128 < h .count → Highest table 256
+  too-many-held l = failing (too-many table l)
+
+  module _ (few : h .count ≤ 128) (d : Bool) (is : d ≡ validTypes h) where
+    pub types-fail : not d ≡ true → Highest table 256
+    types-fail x = failing (wrong-types table few d is x)
+
+    module _ (x : not d ≡ false) (highest : ℕ) (r : Ranks keys (h .count) highest) where
+      pub keys-fail : 255 < highest → Highest table 256
+      keys-fail l = failing (fails-unless (KeysPass keys (h .count)) valid-keys (r .fail l))
+
+      module _ (l : highest ≤ 255) (c : Bool) (u : Tells c (HeardPass heard (h .count))) where
+        pub heard-fail : not c ≡ true → Highest table 256
+        heard-fail y =
+            failing (fails-unless (HeardPass heard (h .count)) valid-heard (λ w. false≢true (sym (not-true c y) ∙ u .if w)))
+
+        pub codes-left : not c ≡ false → Highest table highest
+        codes-left y = record { few = λ a. few; most = r .most; decides = λ a. decide; fails = λ a. absurd (omega arith) }
+          where
+            decide : (b : Bool) → Tells b (CodesPass (h .codes) keys (h .count)) → b ≡ valid table
+            decide true s = sym (all-pass (r .pass l) (u .then (not-false c y)) few (sym is ∙ not-false d x) (s .then refl))
+            decide false s = fails-unless (CodesPass (h .codes) keys (h .count)) valid-codes (λ p. false≢true (s .if p))
+
+-- BY THE HIGHEST CODE
+
+module _ (t : Table) (highest : ℕ) (w : Highest t highest) where
+  pub few-held : highest ≤ 255 → t .head .count ≤ 128
+  few-held = w .few
+
+  pub all-keys : highest < 16 → t .head .codes .«from_0» % 65536 ≡ 65535 → true ≡ valid t
+  all-keys h e = w .decides (omega arith) true (all-are-low (t .head .codes) (t .keys) (t .head .count) highest (w .most (omega arith)) h e)
+
+  pub none-passes : 255 < highest → false ≡ valid t
+  none-passes = w .fails
+
+  pub by-codes : highest ≤ 255 → (b : Bool) → Tells b (CodesPass (t .head .codes) (t .keys) (t .head .count)) → b ≡ valid t
+  by-codes = w .decides

@@ -1,22 +1,40 @@
 // The tests of refusal 16. Nothing is decided on the way through a column, so that the compiler can test several places at a
-// time: the bits of all numbers are gathered, and since 2^31 offsets, 16 codes and 64 volumes are powers of two, one look at
-// the gathered bits tells whether one number is too large.
+// time: the bits of all numbers are gathered, and since 2^31 offsets and 64 volumes are powers of two, one look at the gathered
+// bits tells whether one number is too large. They tell too whether all codes are among the 16 keys; if the set has these, no code
+// is looked at by itself. There are two steps, each small enough for the compiler to put it into a receiving call.
 ghost use mathlib.Core.Path.{_≡_};
 ghost use Prim.Native.Nat.{_≤_};
 ghost use Rattle.model.specs.Table.{validTypes, valid, tableOf};
-ghost use Rattle.valid.specs.Passes.{KeysPass, HeardPass, Tells};
+ghost use Rattle.valid.specs.Passes.{CodesPass, HeardPass, Tells, Ranks, Highest};
+use codes::contains_byte;
+use model::Codes;
 use model::Head;
 use std::num::wrapping_sub_u32;
 use std::num::wrapping_sub_u64;
 
-// Whether the first n keys rise, with offsets below 2^31 and codes up to 15. A key less the one before it, less one, has bit
-// 63 if it does not rise: both are far below that bit, or the gathered bits tell.
-fn keys_pass(keys: &[u64; 128], n: usize) -> bool
+// Whether the codes of the first n keys are in the set.
+fn each_in(codes: Codes, keys: &[u64; 128], n: usize) -> bool
     requires { ⌜ n ≤ 128 ⌝ }
-    ensures { λ r. ⌜ Tells r (KeysPass (now (keys .entry)) n) ⌝ }
+    ensures { λ r. ⌜ Tells r (CodesPass codes (now (keys .entry)) n) ⌝ }
+{
+    let mut i = 0usize;
+    while i < n {
+        if !contains_byte(codes, (keys[i] % 256) as u8) {
+            return false;
+        }
+        i += 1;
+    }
+    true
+}
+
+// What no code of the first n keys is above, by their gathered bits; 256 if the keys do not rise or an offset is 2^31 or more. A key less
+// the one before it, less one, has bit 63 if it does not rise: both are far below that bit, or the gathered bits tell.
+fn highest_of(keys: &[u64; 128], n: usize) -> u64
+    requires { ⌜ n ≤ 128 ⌝ }
+    ensures { λ r. ⌜ Ranks (now (keys .entry)) n r ⌝ }
 {
     if n == 0 {
-        return true;
+        return 0;
     }
     let mut bits = keys[0];
     let mut falls = 0u64;
@@ -28,12 +46,12 @@ fn keys_pass(keys: &[u64; 128], n: usize) -> bool
         i += 1;
     }
     if 0x80_0000_0000 <= bits {
-        return false;
+        return 256;
     }
-    if 15 < bits % 256 {
-        return false;
+    if 0x8000_0000_0000_0000 <= falls {
+        return 256;
     }
-    falls < 0x8000_0000_0000_0000
+    bits % 256
 }
 
 // Whether each of the first n places has a duration, and a volume up to 63. A duration less one has bit 31 if it is 0.
@@ -73,20 +91,48 @@ fn types_pass(head: Head) -> bool
     head.payload_type != head.redundant_type
 }
 
-// Whether a table passes the tests: at most 128 segments held, the payload types, every segment within its ranges and after the one
-// before it, by offset, then code.
-pub fn is_valid<'a>(head: Head, keys: &'a [u64; 128], heard: &'a [u32; 128]) -> bool
-    ensures { λ r. ⌜ r ≡ valid (tableOf head (now (keys .entry)) (now (heard .entry))) ⌝ }
+// The first step: what no code held is above, or 256 if a table fails another test than that of its codes: at most 128 segments held,
+// the payload types, every segment within its ranges and after the one before it, by offset, then code.
+pub fn highest_code<'a>(head: Head, keys: &'a [u64; 128], heard: &'a [u32; 128]) -> u64
+    ensures { λ r. ⌜ Highest (tableOf head (now (keys .entry)) (now (heard .entry))) r ⌝ }
 {
     let n = head.count;
     if 128 < n {
-        return false;
+        return 256;
     }
     if !types_pass(head) {
+        return 256;
+    }
+    let highest = highest_of(keys, n);
+    if 255 < highest {
+        return 256;
+    }
+    if !heard_pass(heard, n) {
+        return 256;
+    }
+    highest
+}
+
+// The second step: whether a table passes all tests, by what the first step found.
+pub fn passes<'a>(head: Head, keys: &'a [u64; 128], heard: &'a [u32; 128], highest: u64) -> bool
+    requires { ⌜ Highest (tableOf head (now keys) (now heard)) highest ⌝ }
+    ensures { λ r. ⌜ r ≡ valid (tableOf head (now (keys .entry)) (now (heard .entry))) ⌝ }
+{
+    if highest < 16 {
+        if head.codes.from_0 % 65536 == 65535 {
+            return true;
+        }
+    }
+    if 255 < highest {
         return false;
     }
-    if !keys_pass(keys, n) {
-        return false;
-    }
-    heard_pass(heard, n)
+    each_in(head.codes, keys, head.count)
+}
+
+// Whether a table passes the tests.
+pub fn is_valid<'a>(head: Head, keys: &'a [u64; 128], heard: &'a [u32; 128]) -> bool
+    ensures { λ r. ⌜ r ≡ valid (tableOf head (now (keys .entry)) (now (heard .entry))) ⌝ }
+{
+    let highest = highest_code(head, keys, heard);
+    passes(head, keys, heard, highest)
 }

@@ -9,7 +9,9 @@ use borrow.Author.Tests.{lt-leb, le-leb, lt-ltb, le-ltb, not-true, not-false}
 use lib.Dec.{leb}
 use lib.ListN.{length, getD, set, take, drop, length-set}
 use lib.Seq.{take-all, drop-drop, paste, paste-zero, paste-suc}
+use Rattle.model.specs.declared.Codes.{Codes}
 use Rattle.model.specs.declared.Report.{Report}
+use Rattle.model.specs.Codes.{isIn}
 use Rattle.model.specs.Refusals.{answered, refusedBy}
 use Rattle.model.specs.Packet.{bit, headerBytes, payloadBytes, packetOf, reportInRange, write}
 use Rattle.model.proofs.Packets.{ranges}
@@ -17,29 +19,29 @@ use Rattle.writer.specs.Pieces.{PayloadInRange, putAt}
 
 -- RANGES
 
-module _ (r : Report) where
-  pub type-high : 127 < r .«payload_type» → false ≡ reportInRange r
+module _ (codes : Codes) (r : Report) where
+  pub type-high : 127 < r .«payload_type» → false ≡ reportInRange codes r
   unfolding reportInRange
   type-high h = rw (lt-leb (r .«payload_type») 127 h)
 
-  module _ (t : r .«payload_type» ≤ 127) where
-    pub code-above : 15 < r .code → false ≡ reportInRange r
+  module _ (t : r .«payload_type» ≤ 127) (b : Bool) (known : b ≡ isIn codes (r .code)) where
+    pub code-outside : not b ≡ true → false ≡ reportInRange codes r
     unfolding reportInRange
-    code-above h = rw (le-leb (r .«payload_type») 127 t, lt-leb (r .code) 15 h)
+    code-outside h = rw (le-leb (r .«payload_type») 127 t, ← known, not-true b h)
 
-    module _ (k : r .code ≤ 15) where
-      pub volume-high : 63 < r .volume → false ≡ reportInRange r
+    module _ (k : not b ≡ false) where
+      pub volume-high : 63 < r .volume → false ≡ reportInRange codes r
       unfolding reportInRange
-      volume-high h = rw (le-leb (r .«payload_type») 127 t, le-leb (r .code) 15 k, lt-leb (r .volume) 63 h)
+      volume-high h = rw (le-leb (r .«payload_type») 127 t, ← known, not-false b k, lt-leb (r .volume) 63 h)
 
       module _ (v : r .volume ≤ 63) where
-        pub duration-none : r .duration < 1 → false ≡ reportInRange r
+        pub duration-none : r .duration < 1 → false ≡ reportInRange codes r
         unfolding reportInRange
-        duration-none h = rw (le-leb (r .«payload_type») 127 t, le-leb (r .code) 15 k, le-leb (r .volume) 63 v, lt-leb 1 (r .duration) h)
+        duration-none h = rw (le-leb (r .«payload_type») 127 t, ← known, not-false b k, le-leb (r .volume) 63 v, lt-leb 1 (r .duration) h)
 
-        pub duration-tested : 1 ≤ r .duration → leb (r .duration) 65535 ≡ reportInRange r
+        pub duration-tested : 1 ≤ r .duration → leb (r .duration) 65535 ≡ reportInRange codes r
         unfolding reportInRange
-        duration-tested h = rw (le-leb (r .«payload_type») 127 t, le-leb (r .code) 15 k, le-leb (r .volume) 63 v, le-leb 1 (r .duration) h)
+        duration-tested h = rw (le-leb (r .«payload_type») 127 t, ← known, not-false b k, le-leb (r .volume) 63 v, le-leb 1 (r .duration) h)
 
 -- BYTES
 
@@ -102,42 +104,42 @@ piece-put p q before after at e h = rw (← e) h
 
 -- THE CALL
 
-module _ (r : Report) where
-  module _ (b : Bool) (e : b ≡ reportInRange r) (h : not b ≡ false) where
+module _ (codes : Codes) (r : Report) where
+  module _ (b : Bool) (e : b ≡ reportInRange codes r) (h : not b ≡ false) where
     pub type-asked : r .«payload_type» ≤ 127
-    type-asked = ranges r (sym e ∙ not-false b h) .type
+    type-asked = ranges codes r (sym e ∙ not-false b h) .type
 
     pub payload-asked : PayloadInRange (r .code) (r .volume) (r .duration)
-    payload-asked = let k = ranges r (sym e ∙ not-false b h) in record { code = k .code; volume = k .volume; duration = k .most }
+    payload-asked = let k = ranges codes r (sym e ∙ not-false b h) in record { code = omega (arith, k .byte); volume = k .volume; duration = k .most }
 
   -- for each way what is answered, and the output after it
-  module _ (output : List ℕ) (b : Bool) (e : b ≡ reportInRange r) where
+  module _ (output : List ℕ) (b : Bool) (e : b ≡ reportInRange codes r) where
     module _ (h : not b ≡ true) where
-      pub range-refused : refusedBy 12 tt ≡ write r output .answer
+      pub range-refused : refusedBy 12 tt ≡ write codes r output .answer
       unfolding write
       range-refused = rw (← e, not-true b h)
 
-      pub range-refused-stays : output ≡ write r output .output
+      pub range-refused-stays : output ≡ write codes r output .output
       unfolding write
       range-refused-stays = rw (← e, not-true b h)
 
     module _ (h : not b ≡ false) where
       module _ (k : length output < 16) where
-        pub output-refused : refusedBy 14 tt ≡ write r output .answer
+        pub output-refused : refusedBy 14 tt ≡ write codes r output .answer
         unfolding write
         output-refused = rw (← e, not-false b h, lt-ltb (length output) 16 k)
 
-        pub output-refused-stays : output ≡ write r output .output
+        pub output-refused-stays : output ≡ write codes r output .output
         unfolding write
         output-refused-stays = rw (← e, not-false b h, lt-ltb (length output) 16 k)
 
       module _ (k : 16 ≤ length output) where
-        pub written : answered tt ≡ write r output .answer
+        pub written : answered tt ≡ write codes r output .answer
         unfolding write
         written = rw (← e, not-false b h, le-ltb (length output) 16 k)
 
         pub written-after : (one after : List ℕ) → one ≡ putAt (headerBytes r (r .«payload_type»)) 0 output
-            → after ≡ putAt (payloadBytes (r .code) (r .ended) (r .volume) (r .duration)) 12 one → after ≡ write r output .output
+            → after ≡ putAt (payloadBytes (r .code) (r .ended) (r .volume) (r .duration)) 12 one → after ≡ write codes r output .output
         unfolding write packetOf putAt
         written-after one after x y =
             rw (← e, not-false b h, le-ltb (length output) 16 k) (y ∙ rw x (ap (λ (l : List ℕ). packetOf r ++ l) (drop-drop 4 12 output)))
@@ -145,7 +147,7 @@ module _ (r : Report) where
 pub ruleset writing = (
   needs,
   type-high,
-  code-above,
+  code-outside,
   volume-high,
   duration-none,
   duration-tested,

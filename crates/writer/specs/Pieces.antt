@@ -5,7 +5,7 @@ use lib.ListN.{take, drop}
 use Rattle.model.specs.Table.{place}
 
 pub record PayloadInRange (c v d : ℕ) : Type 0 where
-  pub code : c ≤ 15
+  pub code : c ≤ 255
   pub volume : v ≤ 63
   pub duration : d ≤ 65535
 

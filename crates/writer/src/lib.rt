@@ -5,8 +5,11 @@ ghost use lib.ListN.{length};
 ghost use Rattle.model.specs.Refusals.{toldWrite};
 ghost use Rattle.model.specs.Packet.{bit, headerBytes, payloadBytes, reportInRange, write};
 ghost use Rattle.writer.specs.Pieces.{PayloadInRange, putAt};
+use codes::contains;
+use model::Codes;
 use model::Report;
 use model::WriteAnswer;
+
 // The upper and the lower byte of 16 bits.
 pub fn upper(x: u16) -> u8
     ensures { λ r. ⌜ r ≡ x / 256 % 256 ⌝ }
@@ -44,14 +47,14 @@ pub fn flagged(flag: bool, low: u32) -> u8
     low as u8
 }
 
-// Whether a report's numbers are in the ranges of refusal 12.
-pub fn in_range(r: Report) -> bool
-    ensures { λ b. ⌜ b ≡ reportInRange r ⌝ }
+// Whether a report's numbers are in the ranges of refusal 12, and its code in the set.
+pub fn in_range(codes: Codes, r: Report) -> bool
+    ensures { λ b. ⌜ b ≡ reportInRange codes r ⌝ }
 {
     if 127 < r.payload_type {
         return false;
     }
-    if 15 < r.code {
+    if !contains(codes, r.code) {
         return false;
     }
     if 63 < r.volume {
@@ -127,12 +130,13 @@ pub fn put_payload(code: u32, ended: bool, volume: u32, duration: u32, at: usize
     put(&p, at, out);
 }
 
-// Writes a report's 16 bytes at the start of the output, or refuses with 12 or 14 and leaves the output as it is.
-pub fn write(r: Report, out: &mut [u8]) -> WriteAnswer
-    ensures { λ a. ⌜ toldWrite a ≡ write r (now (out .entry)) .answer ⌝ }
-    ensures { λ a. ⌜ now (out .exit) ≡ write r (now (out .entry)) .output ⌝ }
+// Writes a report's 16 bytes at the start of the output, or refuses with 12, also for a code outside the set, or 14, and leaves the
+// output as it is.
+pub fn write(codes: Codes, r: Report, out: &mut [u8]) -> WriteAnswer
+    ensures { λ a. ⌜ toldWrite a ≡ write codes r (now (out .entry)) .answer ⌝ }
+    ensures { λ a. ⌜ now (out .exit) ≡ write codes r (now (out .entry)) .output ⌝ }
 {
-    if !in_range(r) {
+    if !in_range(codes, r) {
         return WriteAnswer::Refused(model::OUT_OF_RANGE);
     }
     if out.len() < 16 {

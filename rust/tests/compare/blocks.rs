@@ -1,8 +1,11 @@
 //! The walker over a redundant packet's blocks, and the writer.
 
+use crate::both::library_codes;
 use crate::make::blocks::{Block, damaged, data, offset, payload};
+use crate::make::codes::codes;
 use crate::make::{self, packets::carrying};
 use crate::paper::blocks as paper;
+use crate::paper::codes::{Codes, EMPTY};
 use crate::paper::packet;
 use crate::random::Random;
 use crate::tally::Tally;
@@ -61,7 +64,7 @@ fn blocks_are_walked_as_on_paper() {
     let random = &Random::new(15);
     let (mut tally, mut blocks) = (Tally::default(), 0);
     for _ in 0..WALKS {
-        let answer = walk(&damaged(random, &make::report(random), &any_blocks(random)));
+        let answer = walk(&damaged(random, &make::report(random, &EMPTY), &any_blocks(random)));
         blocks += answer.unwrap_or(0);
         tally.add(answer);
     }
@@ -76,7 +79,7 @@ fn redundant_packets_may_be_cut_at_every_byte() {
     let mut tally = Tally::default();
     for _ in 0..1_000 {
         let blocks: Vec<_> = (0..1 + random.index(5)).map(|_| any_block(random)).collect();
-        let mut packet = carrying(random, &make::report(random), &payload(&blocks));
+        let mut packet = carrying(random, &make::report(random, &EMPTY), &payload(&blocks));
         if random.bool() {
             packet[0] &= 0b1101_1111; // no padding, which a cut would mostly make bad
         }
@@ -144,7 +147,7 @@ fn any_cursor_is_answered_as_on_paper() {
     let (mut found, mut older) = (0, 0);
     for _ in 0..CURSORS / 20 {
         let blocks: Vec<_> = (0..1 + random.index(4)).map(|_| any_block(random)).collect();
-        let mut packet = damaged(random, &make::report(random), &blocks);
+        let mut packet = damaged(random, &make::report(random, &EMPTY), &blocks);
         packet.truncate(random.pick(&[40, 100, usize::MAX]));
         for _ in 0..20 {
             let number = || match random.below(8) {
@@ -176,10 +179,10 @@ fn any_cursor_is_answered_as_on_paper() {
 }
 
 /// An older report, often on both sides of the oldest that there may be.
-fn older(random: &Random, report: &Report) -> OlderReport {
+fn older(random: &Random, codes: &Codes, report: &Report) -> OlderReport {
     let edge = random.pick(&[0, 1, 16_382, 16_383, 16_384, 16_385, 32_767, 65_536, u32::MAX]);
     let behind = random.pick(&[random.below(16_384), random.below(16_384), edge]);
-    let any = OlderReport::from(make::report(random));
+    let any = OlderReport::from(make::report(random, codes));
     let behind = if random.one_in(32) { random.u32() } else { behind };
     OlderReport { timestamp: report.timestamp.wrapping_sub(behind), ..any }
 }
@@ -188,29 +191,31 @@ fn older(random: &Random, report: &Report) -> OlderReport {
 /// many bytes of a larger output, so that a byte written too far is seen.
 fn write(
     random: &Random,
-    (report, redundant_type): (&Report, u32),
+    (codes, report, redundant_type): (&Codes, &Report, u32),
     (older, count): (&[OlderReport; 4], u32),
     bytes: usize,
 ) -> Result<usize, u8> {
+    let set = library_codes(codes);
     let counted = &older[..older.len().min(count as usize)];
     let before = random.bytes(bytes + 8);
     let mut expected = before.clone();
     let output = &mut expected[..bytes];
-    let answer = paper::write_redundant(report, redundant_type, counted, output);
+    let answer = paper::write_redundant(codes, report, redundant_type, counted, output);
     let mut output = before.clone();
     let two = [older[0], older[1]];
-    let refusal = sys::write_redundant(*report, redundant_type, count, two, &mut output[..bytes]);
+    let lent = &mut output[..bytes];
+    let refusal = sys::write_redundant(set, *report, redundant_type, count, two, lent);
     let said = (refusal, &output);
     assert_eq!(said, (answer.err().unwrap_or(0), &expected), "{count} of {older:?}, {report:?}");
     let mut output = before.clone();
-    let said = report.write_redundant(redundant_type, counted, &mut output[..bytes]);
+    let said = report.write_redundant(set, redundant_type, counted, &mut output[..bytes]);
     let said = (said.map_err(Refusal::number), &output);
     assert_eq!(said, (answer, &expected), "{count} of {older:?}, {report:?}");
     answer
 }
 
 /// The walker hands out what was written, as it was given.
-fn compare_with_walk(packet: &[u8], report: &Report, older: &[OlderReport]) {
+fn compare_with_walk(codes: &Codes, packet: &[u8], report: &Report, older: &[OlderReport]) {
     let header = packet::header(packet).unwrap();
     let given = older.iter().copied().chain([OlderReport::from(report)]);
     for (block, given) in Blocks::of(packet).unwrap().zip(given) {
@@ -226,7 +231,7 @@ fn compare_with_walk(packet: &[u8], report: &Report, older: &[OlderReport]) {
         let marker = report.marker && block.primary;
         let OlderReport { timestamp, code, ended, volume, duration } = given;
         let whole = Report { marker, timestamp, code, ended, volume, duration, ..*report };
-        assert_eq!(packet::report(&said), Ok(whole));
+        assert_eq!(packet::report(codes, &said), Ok(whole));
     }
     assert_eq!(Blocks::of(packet).unwrap().count(), older.len() + 1);
 }
@@ -236,21 +241,24 @@ fn redundant_packets_are_written_as_on_paper() {
     let random = &Random::new(18);
     let (mut tally, mut by_count) = (Tally::default(), [0; 3]);
     for _ in 0..WRITES {
-        let report = make::report(random);
-        let older = [(); 4].map(|_| older(random, &report));
+        let codes = codes(random);
+        let report = make::report(random, &codes);
+        let older = [(); 4].map(|_| older(random, &codes, &report));
         let same = random.pick(&[0, 0, 128, 256, 1 << 31]) + report.payload_type % 128;
         let redundant_type = if random.one_in(8) { same } else { make::number(random, 0, 127) };
         let many = random.pick(&[3, 4, 255, 256, 257, 1 << 31, u32::MAX]);
         let count = random.pick(&[0, 0, 1, 1, 2, 2, many]);
         let whole = 17 + 8 * count.min(4) as usize;
         let bytes = random.pick(&[0, whole - 1, whole, whole, whole + 1, random.index(60)]);
-        let given = (&report, redundant_type);
+        let given = (&codes, &report, redundant_type);
         let answer = write(random, given, (&older, count), bytes);
         tally.add(answer);
         if let Ok(bytes) = answer {
             let (mut packet, older) = ([0; 33], &older[..count as usize]);
-            assert_eq!(report.write_redundant(redundant_type, older, &mut packet), Ok(bytes));
-            compare_with_walk(&packet[..bytes], &report, older);
+            let set = library_codes(&codes);
+            let written = report.write_redundant(set, redundant_type, older, &mut packet);
+            assert_eq!(written, Ok(bytes));
+            compare_with_walk(&codes, &packet[..bytes], &report, older);
             by_count[count as usize] += 1;
         }
     }

@@ -1,5 +1,6 @@
 //! One table twice: the library's, and the one on paper.
 
+use crate::paper::codes::Codes;
 use crate::paper::table::{Segment, Table};
 
 #[derive(Clone, Debug)]
@@ -33,13 +34,28 @@ impl Both {
 
 /// The library's table that holds what one on paper does.
 pub fn library(paper: &Table) -> twimbor::Table {
-    let &Table { payload_type, both_types, redundant_type, ssrc, origin, count, ref segments } =
-        paper;
+    let Table { ref codes, ref segments, .. } = *paper;
+    let Table { payload_type, both_types, redundant_type, ssrc, origin, count, .. } = *paper;
+    let codes = library_codes(codes);
     twimbor::Table {
-        head: twimbor::Head { payload_type, both_types, redundant_type, ssrc, origin, count },
+        head: twimbor::Head {
+            payload_type,
+            both_types,
+            redundant_type,
+            ssrc,
+            origin,
+            codes,
+            count,
+        },
         keys: segments.each_ref().map(|segment| numbers(segment).0),
         heard: segments.each_ref().map(|segment| numbers(segment).1),
     }
+}
+
+/// The library's set of the codes that one on paper has: a bit for each, as `include/twimbor.h` says.
+pub fn library_codes(paper: &Codes) -> twimbor::Codes {
+    let word = |codes: &[bool]| codes.iter().rev().fold(0, |word, &bit| 2 * word + u64::from(bit));
+    twimbor::Codes::from(std::array::from_fn(|i| word(&paper.0[64 * i..64 * i + 64])))
 }
 
 /// The library's segment that says what one on paper does.

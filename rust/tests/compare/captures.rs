@@ -4,6 +4,7 @@ use crate::both::Both;
 use crate::make::captures::{capture, framed, frames};
 use crate::make::tables::{broken_table, table};
 use crate::paper::capture::{self as paper, Answers};
+use crate::paper::codes::Codes;
 use crate::paper::packet;
 use crate::paper::table::{self, Table};
 use crate::random::Random;
@@ -197,7 +198,7 @@ fn short_and_long(table: &Table) -> (Vec<u8>, Vec<u8>) {
 /// The longest frames, between short ones, cut near each of their ends, and in pieces.
 #[test]
 fn the_longest_frames_are_received_as_on_paper() {
-    let (table, _) = table::open(101, 0x1122_3344, 7);
+    let (table, _) = table::open(Codes::of([5]), 101, 0x1122_3344, 7);
     let (short, long) = short_and_long(&table);
     assert_eq!(long.len(), 65_535);
     let packed = [&short[..12], &[0; 65_520]].concat();

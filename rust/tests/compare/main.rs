@@ -1,10 +1,11 @@
 //! The library compared with documents 01 and 02, written again from their text alone (`paper`), on
-//! random inputs, and in `probes` on every place of every number held: each answer, table field,
-//! place, and lent byte, record and entry, also under a refusal.
+//! random inputs, in `probes` on every place of every number held, and in `codes` on every pair of
+//! codes: each answer, table field, place, and lent byte, record and entry, also under a refusal.
 
 mod blocks;
 mod both;
 mod captures;
+mod codes;
 mod lists;
 mod make;
 mod order;
@@ -26,6 +27,7 @@ const _: () = assert!(
         + lists::INPUTS
         + blocks::INPUTS
         + redundant::INPUTS
+        + codes::INPUTS
         >= 2_000_000,
     "at least two million inputs are compared"
 );

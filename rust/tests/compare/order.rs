@@ -1,6 +1,7 @@
 //! Reports in any order, any number of times, leave the segments that the set of them says.
 
 use crate::both::{library, segment};
+use crate::make::codes::few;
 use crate::make::tables::empty_table;
 use crate::paper::packet;
 use crate::paper::table::{self as paper, Segment, Table};
@@ -9,10 +10,10 @@ use std::collections::BTreeMap;
 use twimbor::Report;
 
 /// What a report says to a table; few pairs of offset and code, so that many say something of one.
-fn said(random: &Random) -> Segment {
+fn said(random: &Random, codes: &[u8]) -> Segment {
     Segment {
         offset: u64::from(random.pick(&[0, 1, 65_535, 131_070, random.below(1 << 31)])),
-        code: random.below(3) as u8,
+        code: random.pick(codes),
         duration: random.pick(&[65_535, random.u16().max(1)]),
         volume: random.below(64) as u16,
         ended: random.one_in(4),
@@ -39,7 +40,9 @@ fn order_and_repeats_play_no_part() {
     let random = &Random::new(10);
     for _ in 0..5_000 {
         let table = empty_table(random);
-        let reports: Vec<_> = (0..random.below(100)).map(|_| said(random)).collect();
+        let codes = few(random, &table.codes, 3);
+        let n = if codes.is_empty() { 0 } else { random.below(100) };
+        let reports: Vec<_> = (0..n).map(|_| said(random, &codes)).collect();
         let mut derived = BTreeMap::new();
         for said in &reports {
             let known = derived.entry((said.offset, said.code)).or_insert(*said);

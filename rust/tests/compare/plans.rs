@@ -1,6 +1,8 @@
 //! The plan's two calls.
 
-use crate::make;
+use crate::both::library_codes;
+use crate::make::{self, codes};
+use crate::paper::codes::Codes;
 use crate::paper::plan as paper;
 use crate::random::Random;
 use crate::tally::Tally;
@@ -13,28 +15,31 @@ const REPORTS: usize = 8;
 
 type Reports = Result<Vec<Report>, u8>;
 
-fn report_count(plan: &Plan, reports: &Reports) -> Result<u32, u8> {
+fn report_count(codes: &Codes, plan: &Plan, reports: &Reports) -> Result<u32, u8> {
     let answer = reports.as_ref().map(|reports| reports.len() as u32).map_err(|&number| number);
     let result = CountResult { reports: answer.unwrap_or(0), refusal: answer.err().unwrap_or(0) };
-    assert_eq!(sys::report_count(*plan), result, "{plan:?}");
-    assert_eq!(plan.report_count().map_err(Refusal::number), answer, "{plan:?}");
+    let set = library_codes(codes);
+    assert_eq!(sys::report_count(set, *plan), result, "{plan:?}, {codes:?}");
+    let said = plan.report_count(set).map_err(Refusal::number);
+    assert_eq!(said, answer, "{plan:?}, {codes:?}");
     answer
 }
 
 fn write_report(
     random: &Random,
-    (plan, reports): (&Plan, &Reports),
+    (codes, plan, reports): (&Codes, &Plan, &Reports),
     k: u32,
     bytes: usize,
 ) -> Result<(), u8> {
+    let set = library_codes(codes);
     let before = random.bytes(bytes + 8);
     let mut expected = before.clone();
     let answer = paper::write_report(reports, k, &mut expected[..bytes]);
     let mut output = before.clone();
-    let refusal = sys::write_report(*plan, k, &mut output[..bytes]);
+    let refusal = sys::write_report(set, *plan, k, &mut output[..bytes]);
     assert_eq!((refusal, &output), (answer.err().unwrap_or(0), &expected), "{k} of {plan:?}");
     let mut output = before.clone();
-    let said = plan.write_report(k, &mut output[..bytes]);
+    let said = plan.write_report(set, k, &mut output[..bytes]);
     assert_eq!((said.map_err(Refusal::number), &output), (answer, &expected), "{k} of {plan:?}");
     answer
 }
@@ -44,9 +49,10 @@ fn plans_are_as_on_paper() {
     let random = &Random::new(3);
     let (mut counts, mut writes) = (Tally::default(), Tally::default());
     for _ in 0..PLANS {
-        let plan = make::plan(random);
-        let reports = paper::reports(&plan);
-        let answer = report_count(&plan, &reports);
+        let codes = codes::codes(random);
+        let plan = make::plan(random, &codes);
+        let reports = paper::reports(&codes, &plan);
+        let answer = report_count(&codes, &plan, &reports);
         counts.add(answer);
         let count = answer.unwrap_or(0);
         for _ in 0..REPORTS {
@@ -54,7 +60,7 @@ fn plans_are_as_on_paper() {
             let edges = [0, 1, count.wrapping_sub(1), count, count + 1, random.u32(), u32::MAX];
             let k = random.pick(&[any, random.pick(&edges)]);
             let bytes = random.pick(&[0, 15, 16, 16, 16, 17, 17, random.index(40)]);
-            writes.add(write_report(random, (&plan, &reports), k, bytes));
+            writes.add(write_report(random, (&codes, &plan, &reports), k, bytes));
         }
     }
     counts.finish("report_count", &[12]);
@@ -75,14 +81,17 @@ fn whole_plans_are_as_on_paper() {
     }
     for (segment_size, length) in shapes {
         for period in [1, 160, 400, 2_400, 65_534, 65_535] {
-            let any = make::plan(random);
-            let plan = Plan { code: any.code % 16, volume: any.volume % 64, ..any };
+            let codes = codes::some_codes(random);
+            let code = u32::from(codes::few(random, &codes, 1)[0]);
+            let any = make::plan(random, &codes);
+            let plan = Plan { code, volume: any.volume % 64, ..any };
             let plan = Plan { payload_type: 101, length, period, segment_size, ..plan };
-            let reports = paper::reports(&plan).unwrap();
-            let packets = plan.packets().unwrap();
+            let reports = paper::reports(&codes, &plan).unwrap();
+            let codes = library_codes(&codes);
+            let packets = plan.packets(codes).unwrap();
             assert_eq!(packets.len(), reports.len());
             for (packet, report) in packets.zip(reports) {
-                assert_eq!(Report::read(&packet), Ok(report));
+                assert_eq!(Report::read(codes, &packet), Ok(report));
             }
         }
     }

@@ -2,6 +2,7 @@
 //! that a report's pair can have among them.
 
 use crate::both::Both;
+use crate::paper::codes::Codes;
 use crate::paper::packet;
 use crate::paper::table::{self, Segment, Table};
 use crate::tables::receive_counting;
@@ -24,7 +25,7 @@ fn table(n: usize) -> Table {
         let (offset, code) = pair(place);
         Segment { offset: u64::from(offset), code, duration: 1, ..Segment::default() }
     });
-    let (opened, _) = table::open(101, 0x1122_3344, 0xFFFF_FFF0);
+    let (opened, _) = table::open(Codes::of(0..=4), 101, 0x1122_3344, 0xFFFF_FFF0);
     Table { count: n, segments, ..opened }
 }
 
@@ -88,7 +89,7 @@ fn strangers(good: &[u8]) -> Vec<(u8, Vec<u8>)> {
         (6, with(11, &[0x45])),
         (7, good[..15].to_vec()),
         (17, [good, &good[12..]].concat()),
-        (8, with(12, &[16])),
+        (8, with(12, &[5])),
         (9, with(14, &[0, 0])),
         (10, with(4, &before_origin)),
     ]

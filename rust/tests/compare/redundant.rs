@@ -1,9 +1,11 @@
 //! The second opening, and the receiver of redundant packets.
 
-use crate::both::{Both, library};
+use crate::both::{Both, library, library_codes};
 use crate::make::blocks::{Block, block_for, payload, redundant_for};
+use crate::make::codes::{codes, some_codes};
 use crate::make::packets::{damage, packet_for};
 use crate::make::{self, tables};
+use crate::paper::codes::Codes;
 use crate::paper::redundant::{self as paper, event_blocks};
 use crate::paper::table::{self, Answer, Table};
 use crate::paper::{blocks, packet};
@@ -88,13 +90,15 @@ fn second_openings_are_as_on_paper() {
         let payload_type = make::number(random, 0, 127);
         let near = payload_type.wrapping_add(random.pick(&[0, 1, 128, 256, u32::MAX]));
         let redundant_type = random.pick(&[make::number(random, 0, 127), near]);
-        let (ssrc, origin) = (random.u32(), random.u32());
-        let (table, answer) = table::open_redundant(payload_type, redundant_type, ssrc, origin);
+        let (set, ssrc, origin) = (codes(random), random.u32(), random.u32());
+        let (table, answer) =
+            table::open_redundant(set, payload_type, redundant_type, ssrc, origin);
         let opened = Opened { table: library(&table), refusal: answer.err().unwrap_or(0) };
-        let said = sys::open_redundant_table(payload_type, redundant_type, ssrc, origin);
+        let set = library_codes(&set);
+        let said = sys::open_redundant_table(set, payload_type, redundant_type, ssrc, origin);
         assert_eq!(said, opened);
         assert!(said.table.is_valid());
-        let said = twimbor::Table::open_redundant(payload_type, redundant_type, ssrc, origin);
+        let said = twimbor::Table::open_redundant(set, payload_type, redundant_type, ssrc, origin);
         assert_eq!(said.map_err(Refusal::number), answer.map(|()| opened.table));
         tally.add(answer);
     }
@@ -212,8 +216,9 @@ fn a_table_receives_from_both_receivers_as_on_paper() {
     for _ in 0..TURNS / 500 {
         let payload_type = random.below(128);
         let other = (payload_type + 1 + random.below(127)) % 128;
+        let codes = some_codes(random);
         let (table, answer) =
-            table::open_redundant(payload_type, other, random.u32(), random.u32());
+            table::open_redundant(codes, payload_type, other, random.u32(), random.u32());
         assert!(answer.is_ok());
         let mut both = Both::of(table);
         let sent: Vec<_> = (0..8).flat_map(|_| sent(random, &both.paper)).collect();
@@ -273,7 +278,8 @@ fn copies(random: &Random, table: &Table, sent: &[Vec<u8>]) -> Vec<u8> {
 #[test]
 fn packets_of_many_blocks_are_received_as_on_paper() {
     let random = &Random::new(22);
-    let (table, _) = table::open_redundant(101, 96, 0x1122_3344, 5);
+    let keys = Codes::of(0..=15);
+    let (table, _) = table::open_redundant(keys, 101, 96, 0x1122_3344, 5);
     let report =
         Report { payload_type: 96, ssrc: 0x1122_3344, timestamp: 9_000, ..Report::default() };
     let mut blocks = Tally::default();

@@ -4,8 +4,10 @@
 
 use crate::both::Both;
 use crate::make::blocks::{Block, data, payload, redundant_for};
+use crate::make::codes::member;
 use crate::make::packets::{carrying, damage, packet_for};
 use crate::make::tables::empty_table;
+use crate::paper::codes::Codes;
 use crate::paper::redundant::{self as paper, event_blocks};
 use crate::paper::table::{self, Table};
 use crate::random::Random;
@@ -47,8 +49,12 @@ fn before(
             0 => Block { payload_type: other, offset, data: data(random) },
             1 => {
                 refused += 1;
-                let data = random.pick(&[&[][..], &[5], &[16, 0, 1, 1], &[5, 0, 0, 0], &[5; 8]]);
-                Block { payload_type: table.payload_type, offset, data: data.to_vec() }
+                let outside = member(random, &Codes(table.codes.0.map(|is_in| !is_in)));
+                let data = match outside {
+                    Some(code) if random.one_in(5) => vec![code, 0, 1, 1],
+                    _ => random.pick(&[&[][..], &[5], &[5, 0, 0, 0], &[5; 8]]).to_vec(),
+                };
+                Block { payload_type: table.payload_type, offset, data }
             }
             _ if !near.is_empty() => {
                 copies += 1;
@@ -136,7 +142,7 @@ fn the_list_is_what_was_sent_in_blocks() {
     for _ in 0..RUNS {
         let mut both = Both::of(empty_table(random));
         first_openings += usize::from(both.paper.both_types == 0);
-        let planned = events(random);
+        let planned = events(random, &both.paper);
         let arrive = |(event, size): &(_, _)| arriving(random, &both.paper, event, *size);
         let sent: Vec<Sent> = planned.iter().flat_map(arrive).collect();
         let each = |this: &Sent| arrival(random, &both.paper, this, &sent);

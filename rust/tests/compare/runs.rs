@@ -1,8 +1,9 @@
 //! Whole runs: events sent by plans to one table, with losses, repeats, any order, and strangers
 //! between. As long as what is needed arrives, the list is exactly the events sent.
 
-use crate::both::Both;
+use crate::both::{Both, library_codes};
 use crate::lists::list;
+use crate::make::codes::few;
 use crate::make::packets::{damage, packet_for};
 use crate::make::tables::empty_table;
 use crate::paper::table::{self as paper, Table};
@@ -13,13 +14,16 @@ use twimbor::{Event, Plan, Report};
 const RUNS: usize = 4_000;
 
 /// Events that do not overlap, within 01's sizes for one table, each with its own segment size;
-/// often one right after another.
-pub fn events(random: &Random) -> Vec<(Event, u32)> {
+/// often one right after another. A table whose set is empty can have none.
+pub fn events(random: &Random, table: &Table) -> Vec<(Event, u32)> {
+    let codes = few(random, &table.codes, 1 + random.index(3));
     let mut events = Vec::new();
+    if codes.is_empty() {
+        return events;
+    }
     let mut room = random.pick(&[4, 30, 128]);
     let top = random.pick(&[0x7FFF_0000, 0x7FFF_FFC0]);
     let mut end = random.pick(&[0, top, random.u32() >> 1, random.u32() >> 9]);
-    let codes = 1 + random.below(3);
     loop {
         let start = end + random.pick(&[0, 0, 1, 65_535, random.below(100_000)]);
         let any = 1 + random.below(65_535);
@@ -31,7 +35,7 @@ pub fn events(random: &Random) -> Vec<(Event, u32)> {
         }
         room -= length.div_ceil(size);
         end = start + length;
-        let (code, volume) = (random.below(codes) as u8, random.below(64) as u8);
+        let (code, volume) = (random.pick(&codes), random.below(64) as u8);
         events.push((Event { code, start, length, volume, began: true, ended: true }, size));
     }
 }
@@ -53,8 +57,10 @@ pub fn arriving(random: &Random, table: &Table, event: &Event, segment_size: u32
         period: random.pick(&[65_535, 65_534, 30_000, often]),
         segment_size,
     };
-    let packets: Vec<_> = plan.packets().unwrap().map(Vec::from).collect();
-    let reports: Vec<_> = packets.iter().map(|packet| Report::read(packet).unwrap()).collect();
+    let codes = library_codes(&table.codes);
+    let packets: Vec<_> = plan.packets(codes).unwrap().map(Vec::from).collect();
+    let reports = packets.iter().map(|packet| Report::read(codes, packet).unwrap());
+    let reports: Vec<_> = reports.collect();
     // Which reports meet each need: the first; a full one of each segment before the last; an end.
     let all = 0..reports.len();
     let mut needs = vec![vec![0], all.clone().filter(|&i| reports[i].ended).collect()];
@@ -100,7 +106,7 @@ fn the_list_is_what_was_sent() {
     let (mut sent_events, mut cut_short, mut taken, mut strangers, mut full) = (0, 0, 0, 0, 0);
     for _ in 0..RUNS {
         let mut both = Both::of(empty_table(random));
-        let planned = events(random);
+        let planned = events(random, &both.paper);
         let arrive = |(event, size): &(_, _)| arriving(random, &both.paper, event, *size);
         let sent = planned.iter().flat_map(arrive);
         let mut packets: Vec<_> = sent.map(|(_, packet)| packet).collect();

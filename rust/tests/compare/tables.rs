@@ -1,8 +1,10 @@
 //! open, tables made of segments, the tests of refusal 16, and receive.
 
-use crate::both::{Both, library, segment};
+use crate::both::{Both, library, library_codes, segment};
+use crate::make::codes::{codes, few, some_codes};
 use crate::make::packets::{damage, packet_for};
 use crate::make::{self, tables};
+use crate::paper::codes::EMPTY;
 use crate::paper::table::{self as paper, Table};
 use crate::paper::{packet, plan};
 use crate::random::Random;
@@ -49,12 +51,14 @@ fn tables_are_opened_as_on_paper() {
     let mut tally = Tally::default();
     for _ in 0..OPENINGS {
         let payload_type = make::number(random, 0, 127);
-        let (ssrc, origin) = (random.u32(), random.u32());
-        let (table, answer) = paper::open(payload_type, ssrc, origin);
+        let (codes, ssrc, origin) = (codes(random), random.u32(), random.u32());
+        let (table, answer) = paper::open(codes, payload_type, ssrc, origin);
         let opened = Opened { table: library(&table), refusal: answer.err().unwrap_or(0) };
-        assert_eq!(sys::open_table(payload_type, ssrc, origin), opened);
-        let said = twimbor::Table::open(payload_type, ssrc, origin).map_err(Refusal::number);
-        assert_eq!(said, answer.map(|()| opened.table));
+        let codes = library_codes(&codes);
+        assert_eq!(sys::open_table(codes, payload_type, ssrc, origin), opened);
+        let said = twimbor::Table::open(codes, payload_type, ssrc, origin);
+        assert!(said.iter().all(|table| table.codes() == codes));
+        assert_eq!(said.map_err(Refusal::number), answer.map(|()| opened.table));
         tally.add(answer);
     }
     tally.finish("open", &[12]);
@@ -68,7 +72,8 @@ fn tables_are_made_of_segments() {
     for i in 0..MADE {
         let table = if i % 2 == 0 { tables::broken_table(random) } else { tables::table(random) };
         let payload_type = u32::from(table.payload_type);
-        let (mut expected, mut answer) = paper::open(payload_type, table.ssrc, table.origin);
+        let (ssrc, origin) = (table.ssrc, table.origin);
+        let (mut expected, mut answer) = paper::open(table.codes, payload_type, ssrc, origin);
         let held = &table.segments[..table.count.min(128)];
         let mut segments: Vec<_> = held.iter().map(segment).collect();
         if table.count > 128 {
@@ -79,8 +84,8 @@ fn tables_are_made_of_segments() {
         if answer.is_ok() && !paper::is_valid(&expected) {
             answer = Err(16);
         }
-        let (ssrc, origin) = (table.ssrc, table.origin);
-        let made = twimbor::Table::from_segments(payload_type, ssrc, origin, &segments);
+        let codes = library_codes(&table.codes);
+        let made = twimbor::Table::from_segments(codes, payload_type, ssrc, origin, &segments);
         assert_eq!(made.map_err(Refusal::number), answer.map(|()| library(&expected)));
         tally.add(answer);
     }
@@ -92,7 +97,7 @@ fn tables_are_made_of_segments() {
 fn any_table_receives_as_on_paper() {
     let random = &Random::new(6);
     let mut tally = Tally::default();
-    let (mut failed_alone, mut known_when_full) = ([0; 9], 0);
+    let (mut failed_alone, mut known_when_full, mut no_codes) = ([0; 9], 0, 0);
     for i in 0..TABLES {
         let mut both = Both::of(match i % 3 {
             0 => tables::broken_table(random),
@@ -107,11 +112,12 @@ fn any_table_receives_as_on_paper() {
         let answer = receive(&mut both, &packet);
         tally.add(answer);
         known_when_full += usize::from(both.paper.count == 128 && answer == Ok(Taken::Known));
+        no_codes += usize::from(both.paper.codes == EMPTY && answer == Err(8));
     }
     tally.finish("receive", &[1, 2, 3, 4, 5, 6, 7, 8, 9, 10, 11, 16, 17]);
     println!("tables that fail one test of the nine alone: {failed_alone:?}");
-    println!("known segments of full tables: {known_when_full}");
-    assert!(!failed_alone.contains(&0) && known_when_full > 0);
+    println!("known segments of full tables: {known_when_full}; codes to empty sets: {no_codes}");
+    assert!(!failed_alone.contains(&0) && known_when_full > 0 && no_codes > 0);
 }
 
 /// Packets one after another on an opened table: of some plans, in any order, repeated, damaged,
@@ -121,7 +127,8 @@ fn a_table_receives_many_as_on_paper() {
     let random = &Random::new(7);
     let mut tally = Tally::default();
     for _ in 0..RECEIVED / 500 {
-        let (table, _) = paper::open(random.below(128), random.u32(), random.u32());
+        let codes = some_codes(random);
+        let (table, _) = paper::open(codes, random.below(128), random.u32(), random.u32());
         let mut both = Both::of(table);
         let sent: Vec<_> = (0..8).flat_map(|_| sent(random, &both.paper)).collect();
         for _ in 0..500 {
@@ -146,11 +153,11 @@ pub fn sent(random: &Random, table: &Table) -> Vec<Vec<u8>> {
         ssrc: table.ssrc,
         sequence: random.u16(),
         start: table.origin.wrapping_add(random.u32() >> 1),
-        code: random.below(16),
+        code: few(random, &table.codes, 1)[0].into(),
         volume: random.below(64),
         length: 1 + random.below(16 * segment_size),
         period: segment_size.div_ceil(1 + random.below(4)),
         segment_size,
     };
-    plan::reports(&plan).unwrap().iter().map(packet::bytes).collect()
+    plan::reports(&table.codes, &plan).unwrap().iter().map(packet::bytes).collect()
 }

@@ -4,6 +4,9 @@ use borrow.Author.Needs.{needs}
 use Rattle.listing.proofs.list_session.Statement.{statement}
 use Rattle.listing.proofs.list_session.Tie as tie
 
+keys-requires : tie.Need-keys-requires
+keys-requires c κs = search needs
+
 open-requires : tie.Need-open-requires
 open-requires c κs = search needs
 
@@ -26,6 +29,7 @@ pub list-session-spec : {M : Type 1} → statement M
 list-session-spec =
     tie.close
     (tie.spec
+    keys-requires
     open-requires
     payload-type-requires
     bad-session-requires

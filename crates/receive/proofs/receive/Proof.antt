@@ -2,8 +2,8 @@ use Rattle.receive.proofs.Ways.{ways}
 use Rattle.receive.proofs.receive.Statement.{statement}
 use Rattle.receive.proofs.receive.Tie as tie
 
-is-valid-requires : tie.Need-is-valid-requires
-is-valid-requires c κs = search ways
+passes-requires : tie.Need-passes-requires
+passes-requires c κs = search ways
 
 refused-requires : tie.Need-refused-requires
 refused-requires c κs = search ways
@@ -27,7 +27,7 @@ pub receive-spec : {M : Type 1} → statement M
 receive-spec =
     tie.close
     (tie.spec
-    is-valid-requires
+    passes-requires
     refused-requires
     returns
     header-for-requires

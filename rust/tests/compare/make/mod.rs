@@ -2,9 +2,11 @@
 
 pub mod blocks;
 pub mod captures;
+pub mod codes;
 pub mod packets;
 pub mod tables;
 
+use crate::paper::codes::Codes;
 use crate::random::Random;
 use twimbor::{Plan, Report};
 
@@ -20,14 +22,14 @@ pub fn number(random: &Random, low: u32, high: u32) -> u32 {
     }
 }
 
-pub fn report(random: &Random) -> Report {
+pub fn report(random: &Random, codes: &Codes) -> Report {
     Report {
         marker: random.bool(),
         payload_type: number(random, 0, 127),
         sequence: random.u16(),
         timestamp: random.u32(),
         ssrc: random.u32(),
-        code: number(random, 0, 15),
+        code: codes::code(random, codes),
         ended: random.bool(),
         volume: number(random, 0, 63),
         duration: number(random, 1, 65_535),
@@ -48,7 +50,7 @@ fn segment_size(random: &Random) -> u32 {
     }
 }
 
-pub fn plan(random: &Random) -> Plan {
+pub fn plan(random: &Random, codes: &Codes) -> Plan {
     let size = segment_size(random);
     let in_range = size.clamp(1, 65_535);
     let one_off = random.below(3).wrapping_sub(1);
@@ -70,7 +72,7 @@ pub fn plan(random: &Random) -> Plan {
         ssrc: random.u32(),
         sequence: random.pick(&[0, 65_535, random.u16()]),
         start: random.pick(&[0, 0xFFFF_FFF0, random.u32()]),
-        code: number(random, 0, 15),
+        code: codes::code(random, codes),
         volume: number(random, 0, 63),
         length,
         period,

@@ -91,7 +91,7 @@ pub fn report_for(random: &Random, table: &Table) -> Report {
         3 => (near.offset as u32).wrapping_add(u32::from(near.duration)),
         _ => near.offset as u32,
     };
-    let mut report = report(random);
+    let mut report = report(random, &table.codes);
     report.timestamp = table.origin.wrapping_add(offset);
     if !random.one_in(12) {
         report.payload_type = u32::from(table.payload_type);

@@ -1,5 +1,7 @@
 //! Tables, valid and not, and the records that lists are lent with.
 
+use super::codes::{codes, few};
+use crate::paper::codes::EMPTY;
 use crate::paper::table::{Segment, Table};
 use crate::random::Random;
 use std::collections::BTreeMap;
@@ -40,14 +42,17 @@ fn types(random: &Random) -> (u8, u8, u8) {
 }
 
 /// A valid table whose segments often continue one another, or miss it by one unit, with anything
-/// in the places above.
+/// in the places above. One whose set is empty holds none.
 pub fn table(random: &Random) -> Table {
-    let small = random.index(6);
-    let wanted = random.pick(&[small, small, random.index(129), 127, 128]);
-    let (codes, marks, ends) = (1 + random.below(16), 1 + random.below(9), 2 + random.below(9));
+    let codes = codes(random);
+    let (small, few) = (random.index(6), few(random, &codes, 1 + random.index(16)));
+    let most = if few.is_empty() { 0 } else { 128 };
+    let wanted = random.pick(&[small, small, random.index(129), 127, 128]).min(most);
+    let (marks, ends) = (1 + random.below(9), 2 + random.below(9));
     let size = random.pick(&[65_535, 65_534, 15_983, 400, 2, 1, random.u16().max(1)]);
     let base = random.pick(&[0, (1 << 31) - 16 * u64::from(size), u64::from(random.u32() >> 1)]);
-    let (mut held, mut last) = (BTreeMap::new(), Segment::default());
+    let code = few.first().copied().unwrap_or(0);
+    let (mut held, mut last) = (BTreeMap::new(), Segment { code, ..Segment::default() });
     while held.len() < wanted {
         let grid = base + u64::from(size) * u64::from(random.below(24));
         let end = last.offset + u64::from(last.duration);
@@ -56,7 +61,7 @@ pub fn table(random: &Random) -> Table {
         let one_off = random.pick(&[size.saturating_sub(1).max(1), size.saturating_add(1)]);
         last = Segment {
             offset: random.pick(&[grid, grid, grid, end, end, near, any]) % (1 << 31),
-            code: random.pick(&[last.code, random.below(codes) as u8]),
+            code: random.pick(&[last.code, random.pick(&few)]),
             duration: random.pick(&[size, size, size, one_off, random.u16().max(1)]),
             volume: random.below(64) as u16,
             ended: random.one_in(ends),
@@ -75,6 +80,7 @@ pub fn table(random: &Random) -> Table {
         redundant_type,
         ssrc: random.u32(),
         origin: random.pick(&[0, 0xFFFF_FFF0, random.u32()]),
+        codes,
         count: wanted,
         segments,
     }
@@ -93,16 +99,18 @@ pub fn broken_table(random: &Random) -> Table {
     let mut table = table(random);
     let last = table.count.saturating_sub(1);
     let some = random.index(last + 1);
-    match random.below(10) {
+    match random.below(12) {
         0 => table.count = random.pick(&[129, 130, 255, 256, 1 << 31, 1 << 32, usize::MAX]),
         1 => table.payload_type = random.pick(&[128, 255]),
-        2 => table.segments[some].code |= 16 << random.below(4),
+        2 => table.codes.0[usize::from(table.segments[some].code)] = false,
         3 => table.segments[some].duration = 0,
         4 => table.segments[some].volume |= 64 << random.below(8),
         5 => table.segments[some] = any_segment(random),
         6 => table.segments[last].offset |= 1 << (31 + random.below(25)),
         7 => table.segments[last] = table.segments[some],
         8 => table.redundant_type = random.pick(&[128, 255, table.payload_type]),
+        9 => table.segments[some].code ^= 1 << random.below(8),
+        10 => table.codes = random.pick(&[EMPTY, codes(random)]),
         _ => table.segments.swap(last, some),
     }
     table

@@ -1,5 +1,6 @@
 //! Request 2: the blocks of a redundant packet, the walker over them, and the writer.
 
+use super::codes::Codes;
 use super::packet::{self, Header};
 use twimbor::sys::{BlockStepResult, Cursor};
 use twimbor::{OlderReport, Report};
@@ -116,6 +117,7 @@ pub fn as_packet<'a>(header: &Header, block: &Block<'a>) -> Header<'a> {
 
 /// Writes a report and the older ones that stand before it; answers how many bytes.
 pub fn write_redundant(
+    codes: &Codes,
     report: &Report,
     redundant_type: u32,
     older: &[OlderReport],
@@ -131,7 +133,10 @@ pub fn write_redundant(
         (i64::from(report.timestamp) - i64::from(older.timestamp)).rem_euclid(1 << 32) as u32
     };
     if older.len() > 2
-        || older.iter().chain([report]).any(|one| packet::write(one, &mut [0; 16]) == Err(12))
+        || older
+            .iter()
+            .chain([report])
+            .any(|one| packet::write(codes, one, &mut [0; 16]) == Err(12))
         || redundant_type > 127
         || redundant_type == report.payload_type
         || older.iter().any(|older| offset(older) > 16_383)

@@ -1,5 +1,6 @@
 //! "The packet": reading and writing.
 
+use super::codes::Codes;
 use twimbor::Report;
 
 /// What a packet says up to its payload.
@@ -46,12 +47,12 @@ pub fn header(packet: &[u8]) -> Result<Header<'_>, u8> {
 }
 
 /// Refusals 7 to 9, and 17.
-pub fn report(header: &Header) -> Result<Report, u8> {
+pub fn report(codes: &Codes, header: &Header) -> Result<Report, u8> {
     let &[code, flags, d0, d1] = header.payload else {
         let bytes = header.payload.len();
         return Err(if bytes >= 8 && bytes % 4 == 0 { 17 } else { 7 });
     };
-    if code > 15 {
+    if !codes.contains(u32::from(code)) {
         return Err(8);
     }
     if (d0, d1) == (0, 0) {
@@ -70,13 +71,13 @@ pub fn report(header: &Header) -> Result<Report, u8> {
     })
 }
 
-pub fn read(packet: &[u8]) -> Result<Report, u8> {
-    report(&header(packet)?)
+pub fn read(codes: &Codes, packet: &[u8]) -> Result<Report, u8> {
+    report(codes, &header(packet)?)
 }
 
-pub fn write(report: &Report, output: &mut [u8]) -> Result<(), u8> {
+pub fn write(codes: &Codes, report: &Report, output: &mut [u8]) -> Result<(), u8> {
     if report.payload_type > 127
-        || report.code > 15
+        || !codes.contains(report.code)
         || report.volume > 63
         || !(1..=65_535).contains(&report.duration)
     {

@@ -1,12 +1,13 @@
 //! "The sender's plan for one event".
 
+use super::codes::Codes;
 use super::packet;
 use twimbor::{Plan, Report};
 
 /// All reports of a plan, in order.
-pub fn reports(plan: &Plan) -> Result<Vec<Report>, u8> {
+pub fn reports(codes: &Codes, plan: &Plan) -> Result<Vec<Report>, u8> {
     if plan.payload_type > 127
-        || plan.code > 15
+        || !codes.contains(plan.code)
         || plan.volume > 63
         || !(1..=65_535).contains(&plan.period)
         || !(1..=65_535).contains(&plan.segment_size)
@@ -50,5 +51,9 @@ pub fn write_report(
     if k == 0 || k as usize > reports.len() {
         return Err(13);
     }
-    packet::write(&reports[k as usize - 1], output)
+    if output.len() < 16 {
+        return Err(14);
+    }
+    output[..16].copy_from_slice(&packet::bytes(&reports[k as usize - 1]));
+    Ok(())
 }

@@ -1,5 +1,6 @@
 //! "The receiving table", its two openings, and its tests.
 
+use super::codes::{self, Codes};
 use super::packet::{Header, header, report};
 use std::collections::BTreeMap;
 
@@ -22,6 +23,7 @@ pub struct Table {
     pub redundant_type: u8,
     pub ssrc: u32,
     pub origin: u32,
+    pub codes: Codes,
     pub count: usize,
     pub segments: [Segment; 128],
 }
@@ -33,32 +35,38 @@ const ZEROS: Table = Table {
     redundant_type: 0,
     ssrc: 0,
     origin: 0,
+    codes: codes::EMPTY,
     count: 0,
     segments: [Segment { offset: 0, code: 0, duration: 0, volume: 0, ended: false, marked: false };
         128],
 };
 
 /// The empty table; under a refusal, one of zeros.
-pub fn open(payload_type: u32, ssrc: u32, origin: u32) -> (Table, Result<(), u8>) {
-    if payload_type > 127 {
+pub fn open(codes: Codes, payload_type: u32, ssrc: u32, origin: u32) -> (Table, Result<(), u8>) {
+    if codes == codes::EMPTY || payload_type > 127 {
         return (ZEROS, Err(12));
     }
     let payload_type = payload_type as u8;
-    (Table { payload_type, ssrc, origin, ..ZEROS }, Ok(()))
+    (Table { payload_type, ssrc, origin, codes, ..ZEROS }, Ok(()))
 }
 
 /// The second opening, which takes both types.
 pub fn open_redundant(
+    codes: Codes,
     payload_type: u32,
     redundant_type: u32,
     ssrc: u32,
     origin: u32,
 ) -> (Table, Result<(), u8>) {
-    if payload_type > 127 || redundant_type > 127 || payload_type == redundant_type {
+    if codes == codes::EMPTY
+        || payload_type > 127
+        || redundant_type > 127
+        || payload_type == redundant_type
+    {
         return (ZEROS, Err(12));
     }
     let (payload_type, redundant_type) = (payload_type as u8, redundant_type as u8);
-    (Table { payload_type, both_types: 1, redundant_type, ssrc, origin, ..ZEROS }, Ok(()))
+    (Table { payload_type, both_types: 1, redundant_type, ssrc, origin, codes, ..ZEROS }, Ok(()))
 }
 
 /// Which of the nine tests a table fails: the seven of 01 in its order, and those of a table of the
@@ -71,7 +79,7 @@ pub fn failed(table: &Table) -> [bool; 9] {
         table.count > 128,
         pairs.windows(2).any(|two| two[0] >= two[1]),
         held.iter().any(|s| s.offset >= 1 << 31),
-        held.iter().any(|s| s.code > 15),
+        held.iter().any(|s| !table.codes.contains(s.code.into())),
         held.iter().any(|s| s.duration == 0),
         held.iter().any(|s| s.volume > 63),
         table.payload_type > 127,
@@ -101,7 +109,7 @@ fn addressed<'a>(table: &Table, packet: &'a [u8]) -> Result<Header<'a>, u8> {
 
 /// What the payload says to a table. Refusals 7 to 10, and 17.
 fn said(table: &Table, header: &Header) -> Result<Segment, u8> {
-    let report = report(header)?;
+    let report = report(&table.codes, header)?;
     let offset = (i64::from(report.timestamp) - i64::from(table.origin)).rem_euclid(1 << 32) as u64;
     if offset >= 1 << 31 {
         return Err(10);

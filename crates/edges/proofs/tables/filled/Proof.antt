@@ -9,6 +9,9 @@ Inv-loop n t₀ i₀ t i = Unit {0}
 abbrev μ-loop : tie.MeasureT-loop
 μ-loop n t₀ i₀ t i = i
 
+keys-requires : tie.Need-keys-requires Inv-loop μ-loop
+keys-requires c κs = search needs
+
 open-requires : tie.Need-open-requires Inv-loop μ-loop
 open-requires c κs = search needs
 
@@ -42,6 +45,7 @@ filled-spec =
     (tie.spec
     Inv-loop
     μ-loop
+    keys-requires
     open-requires
     loop-holds
     sub-i

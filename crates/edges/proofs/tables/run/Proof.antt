@@ -37,6 +37,9 @@ loop-less c = search needs
 loop-again : tie.Need-loop-again Inv-loop μ-loop Inv-loop2 μ-loop2 Inv-loop3 μ-loop3
 loop-again c = search needs
 
+keys-requires : tie.Need-keys-requires Inv-loop μ-loop Inv-loop2 μ-loop2 Inv-loop3 μ-loop3
+keys-requires c κs = search needs
+
 open-requires : tie.Need-open-requires Inv-loop μ-loop Inv-loop2 μ-loop2 Inv-loop3 μ-loop3
 open-requires c κs = search needs
 
@@ -95,6 +98,7 @@ run-spec =
     add-i
     loop-less
     loop-again
+    keys-requires
     open-requires
     loop2-holds
     receive-row-requires

@@ -1,18 +1,10 @@
 use Rattle.receive.proofs.Stepwise.{steps}
+use borrow.Author.Needs.{needs}
 use Rattle.receive.proofs.steps.hear_in.Statement.{statement}
 use Rattle.receive.proofs.steps.hear_in.Tie as tie
 
 enum-known-found : tie.Need-enum-known-found
-enum-known-found c = search steps
-
-enum-told : tie.Need-enum-told
-enum-told c = search steps
-
-header-refusal-requires : tie.Need-header-refusal-requires
-header-refusal-requires c κs = search steps
-
-returns : tie.Need-returns
-returns c = search steps
+enum-known-found c = search needs
 
 timestamp-requires : tie.Need-timestamp-requires
 timestamp-requires c κs = search steps
@@ -30,7 +22,13 @@ part-hear-end : tie.Need-part-hear-end
 part-hear-end c = search steps
 
 hear-requires : tie.Need-hear-requires
-hear-requires c κs = search steps
+hear-requires c κs = search needs
+
+enum-known-found-2 : tie.Need-enum-known-found-2
+enum-known-found-2 c = search needs
+
+returns : tie.Need-returns
+returns c = search steps
 
 returns-2 : tie.Need-returns-2
 returns-2 c = search steps
@@ -40,13 +38,12 @@ hear-in-spec =
     tie.close
     (tie.spec
     enum-known-found
-    enum-told
-    header-refusal-requires
-    returns
     timestamp-requires
     marker-requires
     sub-hear
     part-hear-start
     part-hear-end
     hear-requires
+    enum-known-found-2
+    returns
     returns-2)

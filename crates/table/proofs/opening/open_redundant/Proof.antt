@@ -1,52 +1,65 @@
 use Rattle.table.proofs.Laws.{receiving}
+use borrow.Author.Needs.{needs}
 use Rattle.table.proofs.opening.open_redundant.Statement.{statement}
 use Rattle.table.proofs.opening.open_redundant.Tie as tie
 
+is-empty-requires : tie.Need-is-empty-requires
+is-empty-requires c κs = search needs
+
 out-of-range-requires : tie.Need-out-of-range-requires
-out-of-range-requires c κs = search receiving
+out-of-range-requires c κs = search needs
 
 returns : tie.Need-returns
 returns c = search receiving
 
 out-of-range-requires-2 : tie.Need-out-of-range-requires-2
-out-of-range-requires-2 c κs = search receiving
+out-of-range-requires-2 c κs = search needs
 
 returns-2 : tie.Need-returns-2
 returns-2 c = search receiving
 
 out-of-range-requires-3 : tie.Need-out-of-range-requires-3
-out-of-range-requires-3 c κs = search receiving
+out-of-range-requires-3 c κs = search needs
 
 returns-3 : tie.Need-returns-3
 returns-3 c = search receiving
 
-cast-both-types : tie.Need-cast-both-types
-cast-both-types c = search receiving
-
-cast-both-types-2 : tie.Need-cast-both-types-2
-cast-both-types-2 c = search receiving
-
-both-types-requires : tie.Need-both-types-requires
-both-types-requires c κs = search receiving
-
-accepted-requires : tie.Need-accepted-requires
-accepted-requires c κs = search receiving
+out-of-range-requires-4 : tie.Need-out-of-range-requires-4
+out-of-range-requires-4 c κs = search needs
 
 returns-4 : tie.Need-returns-4
 returns-4 c = search receiving
+
+cast-both-types : tie.Need-cast-both-types
+cast-both-types c = search needs
+
+cast-both-types-2 : tie.Need-cast-both-types-2
+cast-both-types-2 c = search needs
+
+both-types-requires : tie.Need-both-types-requires
+both-types-requires c κs = search needs
+
+accepted-requires : tie.Need-accepted-requires
+accepted-requires c κs = search needs
+
+returns-5 : tie.Need-returns-5
+returns-5 c = search receiving
 
 pub open-redundant-spec : {M : Type 1} → statement M
 open-redundant-spec =
     tie.close
     (tie.spec
+    is-empty-requires
     out-of-range-requires
     returns
     out-of-range-requires-2
     returns-2
     out-of-range-requires-3
     returns-3
+    out-of-range-requires-4
+    returns-4
     cast-both-types
     cast-both-types-2
     both-types-requires
     accepted-requires
-    returns-4)
+    returns-5)

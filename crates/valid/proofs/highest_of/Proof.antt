@@ -1,10 +1,10 @@
 -- The gathered bits tell of all keys so far.
 use Prim.Native.Nat.{_-_}
-use Rattle.valid.proofs.Gathers.{Keyed, keys-go-on}
 use borrow.Author.Needs.{needs}
+use Rattle.valid.proofs.Gathers.{Keyed, keys-go-on}
 use Rattle.valid.proofs.Laws.{testing}
-use Rattle.valid.proofs.keys_pass.Statement.{statement}
-use Rattle.valid.proofs.keys_pass.Tie as tie
+use Rattle.valid.proofs.highest_of.Statement.{statement}
+use Rattle.valid.proofs.highest_of.Tie as tie
 
 abbrev Inv-loop : tie.InvT-loop
 Inv-loop keys n bits₀ falls₀ i₀ bits falls i = Keyed keys n i bits falls
@@ -70,8 +70,8 @@ returns-3 c = search testing
 returns-4 : tie.Need-returns-4 Inv-loop μ-loop
 returns-4 c = search testing
 
-pub keys-pass-spec : {M : Type 1} → statement M
-keys-pass-spec =
+pub highest-of-spec : {M : Type 1} → statement M
+highest-of-spec =
     tie.close
     (tie.spec
     Inv-loop

@@ -1,0 +1,10 @@
+pub mod Decimals
+pub mod Grammar
+pub mod Joins
+pub mod Laws
+pub mod Numbers
+pub mod Pieces
+pub mod Ranges
+pub mod Reading
+pub mod Rows
+pub mod Splits

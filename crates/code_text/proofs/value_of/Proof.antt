@@ -1,0 +1,68 @@
+-- The loop goes along the digits, and knows the number that they say so far.
+use Prim.Native.Nat.{_-_}
+use lib.ListN.{length}
+use Rattle.code_text.proofs.Numbers.{Saying}
+use Rattle.code_text.proofs.Laws.{reading-codes}
+use Rattle.code_text.proofs.value_of.Statement.{statement}
+use Rattle.code_text.proofs.value_of.Tie as tie
+
+abbrev Inv-loop : tie.InvT-loop
+Inv-loop digits i₀ number₀ i number = Saying digits i number
+
+abbrev μ-loop : tie.MeasureT-loop
+μ-loop digits i₀ number₀ i number = length digits - i
+
+loop-holds : tie.Need-loop-holds Inv-loop μ-loop
+loop-holds c = search reading-codes
+
+shared-slice-read-b : tie.Need-shared-slice-read-b Inv-loop μ-loop
+shared-slice-read-b c = search reading-codes
+
+returns : tie.Need-returns Inv-loop μ-loop
+returns c = search reading-codes
+
+returns-2 : tie.Need-returns-2 Inv-loop μ-loop
+returns-2 c = search reading-codes
+
+mul-number : tie.Need-mul-number Inv-loop μ-loop
+mul-number c = search reading-codes
+
+cast-number : tie.Need-cast-number Inv-loop μ-loop
+cast-number c = search reading-codes
+
+add-number : tie.Need-add-number Inv-loop μ-loop
+add-number c = search reading-codes
+
+returns-3 : tie.Need-returns-3 Inv-loop μ-loop
+returns-3 c = search reading-codes
+
+add-i : tie.Need-add-i Inv-loop μ-loop
+add-i c = search reading-codes
+
+loop-less : tie.Need-loop-less Inv-loop μ-loop
+loop-less c = search reading-codes
+
+loop-again : tie.Need-loop-again Inv-loop μ-loop
+loop-again c = search reading-codes
+
+returns-4 : tie.Need-returns-4 Inv-loop μ-loop
+returns-4 c = search reading-codes
+
+pub value-of-spec : {M : Type 1} → statement M
+value-of-spec =
+    tie.close
+    (tie.spec
+    Inv-loop
+    μ-loop
+    loop-holds
+    shared-slice-read-b
+    returns
+    returns-2
+    mul-number
+    cast-number
+    add-number
+    returns-3
+    add-i
+    loop-less
+    loop-again
+    returns-4)

@@ -1,0 +1,2 @@
+pub mod CodesWritten
+pub mod Steps
