@@ -24,7 +24,7 @@ INLINE size_t place_of(const twimbor_table *t, uint64_t key)
 /* The report of a packet as a sender writes it: the header's 12 bytes, the payload's 4. */
 INLINE uint8_t take(twimbor_table *t, const uint8_t *p)
 {
-    if (!plain_has(&t->head.codes, p[12])) return 8;
+    if (!plain_has_byte(&t->head.codes, p[12])) return 8;
     uint32_t units = (uint32_t)p[14] << 8 | p[15];
     if (units == 0) return 9;
     uint32_t offset = number_32(p + 4) - t->head.origin;

@@ -20,7 +20,7 @@ twimbor_read_result plain_read(twimbor_codes codes, const uint8_t *p, size_t n)
         end -= pad;
     }
     if (end - at != 4) { r.refusal = plain_misfit(end - at); return r; }
-    if (!plain_has(&codes, p[at])) { r.refusal = 8; return r; }
+    if (!plain_has_byte(&codes, p[at])) { r.refusal = 8; return r; }
     uint32_t duration = (uint32_t)p[at + 2] << 8 | p[at + 3];
     if (duration == 0) { r.refusal = 9; return r; }
     r.report.marker = p[1] >> 7;

@@ -37,7 +37,7 @@ INLINE plain_answer receive_valid(twimbor_table *t, const uint8_t *p, size_t n)
     if ((p[1] & 127) != t->head.payload_type) return refused(5);
     if (number_32(p + 8) != t->head.ssrc) return refused(6);
     if (end - at != 4) return refused(plain_misfit(end - at));
-    if (!plain_has(&t->head.codes, p[at])) return refused(8);
+    if (!plain_has_byte(&t->head.codes, p[at])) return refused(8);
     uint32_t units = (uint32_t)p[at + 2] << 8 | p[at + 3];
     if (units == 0) return refused(9);
     uint32_t offset = number_32(p + 4) - t->head.origin;
