@@ -36,7 +36,7 @@ fn has_bit(word: u64, k: u32) -> bool
     requires { ⌜ k < 64 ⌝ }
     ensures { λ r. ⌜ r ≡ eqb (word / 2 ^ k % 2) 1 ⌝ }
 {
-    (word >> k) % 2 == 1
+    (word >> k) & 1 == 1
 }
 
 // Whether a code is in the set; none above 255 is.

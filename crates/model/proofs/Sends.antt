@@ -35,6 +35,7 @@ pub record LengthRanges (p : Plan) : Type 0 where
   pub some : 1 ≤ p .length
   pub most : p .length ≤ longest p
   pub often : 1 ≤ p .period
+  pub seldom : p .period ≤ 65535
 
 pub length-ranges : (p : Plan) → lengthsInRange p ≡ true → LengthRanges p
 length-ranges p v =
@@ -42,12 +43,14 @@ length-ranges p v =
     let size = and-then _ _ (a .0) in
     let b = and-then _ _ (a .1) in
     let length = and-then _ _ (b .0) in
+    let period = and-then _ _ (b .1) in
     record {
       wide = leb-true _ _ (size .0);
       narrow = leb-true _ _ (size .1);
       some = leb-true _ _ (length .0);
       most = leb-true _ _ (length .1);
-      often = leb-true _ _ (and-then _ _ (b .1) .0);
+      often = leb-true _ _ (period .0);
+      seldom = leb-true _ _ (period .1);
     }
 
 pub record PlanRanges (codes : Codes) (p : Plan) : Type 0 where

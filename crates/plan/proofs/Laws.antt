@@ -32,7 +32,7 @@ use Rattle.model.specs.Refusals.{noReport}
 use Rattle.model.proofs.Cuts.{whole, after}
 use Rattle.model.proofs.Plans.{reports-of-segment, length-wire, wire-at, length-interim}
 use Rattle.plan.specs.declared.Place.{Place}
-use Rattle.plan.specs.Formula.{interimCount, reportsIn, durationAt, perFull, reportTotal, placeOf, unitsAt, endedAt, sayingAt}
+use Rattle.plan.specs.Formula.{interimCount, reportsIn, durationAt, perFull, reportTotal, cutOf, placeOf, unitsAt, endedAt, sayingAt}
 
 -- ONE SEGMENT. Reports, segments and places are counted from 0.
 
@@ -189,15 +189,25 @@ module _ (p : Plan) where
             let e : n ≡ q = omega (arith, upper) in
             rw (le-ltb q n (omega arith)) (omega (arith, div-add-mod' i (perFull p), ap (λ (k : ℕ). k * perFull p) e))
 
-    pub saying-at : (d : Segment) → getD (sayings p) i d ≡ sayingAt p (placeOf p i) i
+    -- E is asked of the last segment alone
+    ends : (at : Place) → (not (ltb (at .segment) (fullSegments p)) && ltb (interimCount (p .period) (unitsAt p (at .segment))) (at .index)) ≡ endedAt (cutOf p) at
     unfolding unitsAt endedAt
+    ends at = go (ltb (at .segment) (fullSegments p))
+      where
+        go : (b : Bool) → (not b && ltb (interimCount (p .period) (cond b (p .«segment_size») (restUnits p))) (at .index))
+            ≡ (not b && ltb (interimCount (p .period) (restUnits p)) (at .index))
+        go true = refl
+        go false = refl
+
+    pub saying-at : (d : Segment) → getD (sayings p) i d ≡ sayingAt p (placeOf p i) i
+    unfolding unitsAt
     saying-at d =
         let n = fullSegments p in
         let at = placeOf p i in
         let rs = reportsOfAll (p .period) (cutFrom p n 0 true) in
         let e = in-all n 0 true (at .segment) (at .index) d (in-place .segment) (in-place .index) in
         let f : 0 + at .segment * p .«segment_size» ≡ at .segment * p .«segment_size» = omega arith in
-        rw f at
+        rw (f, ends at) at
         (mark-at rs i d (ofSegment (p .period) (segmentAt n 0 (at .segment)) (at .index)) (omega (arith, length-all n 0 true)) (rw (in-place .both) at e) refl)
 
 -- ON THE WIRE

@@ -15,7 +15,9 @@ use Rattle.model.specs.Refusals.{Told, refusedBy}
 use Rattle.model.specs.Packet.{reportInRange, write}
 use Rattle.model.specs.Plan.{planInRange, reports, reportAt, writeReport}
 use Rattle.model.proofs.Sends.{plan-ranges, report-in-range}
-use Rattle.plan.proofs.Ways.{passed}
+use Rattle.plan.specs.declared.Cut.{Cut}
+use Rattle.plan.specs.Formula.{cutOf}
+use Rattle.plan.proofs.Ways.{passed, total-counts, number-within}
 
 module _ (codes : Codes) (p : Plan) (k : ℕ) (output : List ℕ) (b : Bool) (tested : b ≡ planInRange codes p) where
   module _ (h : not b ≡ true) where
@@ -40,23 +42,26 @@ module _ (codes : Codes) (p : Plan) (k : ℕ) (output : List ℕ) (b : Bool) (te
       unfolding writeReport
       number-none-stays = rw (range, eq-eqb k 0 e)
 
-    module _ (some : k ≡ 0 → ⊥) (n : ℕ) (count : n ≡ length (reports p)) where
-      module _ (e : n < k) where
+    module _ (some : k ≡ 0 → ⊥) (c : Cut) (cut : c ≡ cutOf p) where
+      count : c .total ≡ length (reports p)
+      count = total-counts p c cut
+
+      module _ (e : c .total < k) where
         pub number-above : refusedBy 13 tt ≡ writeReport codes p k output .answer
         unfolding writeReport
-        number-above = rw (range, ne-eqb k 0 some, lt-ltb (length (reports p)) k (omega arith))
+        number-above = rw (range, ne-eqb k 0 some, lt-ltb (length (reports p)) k (omega (arith, count)))
 
         pub number-above-stays : output ≡ writeReport codes p k output .output
         unfolding writeReport
-        number-above-stays = rw (range, ne-eqb k 0 some, lt-ltb (length (reports p)) k (omega arith))
+        number-above-stays = rw (range, ne-eqb k 0 some, lt-ltb (length (reports p)) k (omega (arith, count)))
 
-      module _ (within : k ≤ n) (r : Report) (e : r ≡ reportAt p k) where
+      module _ (within : k ≤ c .total) (r : Report) (e : r ≡ reportAt p k) where
         -- past the refusals of the plan the call is one of `write`
         as-packet : writeReport codes p k output ≡ write codes r output
         unfolding writeReport write
         as-packet =
-            let fine : reportInRange codes (reportAt p k) ≡ true = report-in-range p k (omega arith) (omega arith) (plan-ranges codes p range) in
-            rw (e, fine, range, ne-eqb k 0 some, le-ltb (length (reports p)) k (omega arith))
+            let fine : reportInRange codes (reportAt p k) ≡ true = report-in-range p k (omega arith) (omega (arith, count)) (plan-ranges codes p range) in
+            rw (e, fine, range, ne-eqb k 0 some, le-ltb (length (reports p)) k (omega (arith, count)))
 
         pub written-out : (a : Told (Unit {0})) → a ≡ write codes r output .answer → a ≡ writeReport codes p k output .answer
         written-out a w = rw as-packet w
@@ -71,6 +76,7 @@ pub ruleset writing-reports = (
   out-of-range-stays,
   number-none,
   number-none-stays,
+  number-within,
   number-above,
   number-above-stays,
   written-out,

@@ -1,9 +1,9 @@
 -- A law for each way through a function, and the bounds that keep its numbers within their types.
 use Prim.Native.Nat.{ℕ, _+_, _-_, _*_, _/_, _%_, _<_, _≤_}
-use mathlib.Core.Path.{_≡_, refl, sym, _∙_}
+use mathlib.Core.Path.{_≡_, refl, sym, ap, _∙_}
 use mathlib.Core.Bool.{Bool, true, false, not, cond}
 use native.Mathlib.Omega.{arith}
-use native.Mathlib.Nat.{div-le-self, mul-le-mul-right, le-div-iff-mul-le, mod-lt}
+use native.Mathlib.Nat.{div-le-self, mul-le-mul-right, le-div-iff-mul-le, div-lt-iff-lt-mul, mod-lt}
 use lib.Dec.{ltb, leb, eqb}
 use lib.ListN.{length}
 use mir.Syntax.{w32}
@@ -19,8 +19,10 @@ use Rattle.model.specs.Plan.{fullSegments, restUnits, longest, lengthsInRange, 
 use Rattle.model.proofs.Cuts.{full-few}
 use Rattle.model.proofs.Sends.{length-ranges}
 use Rattle.model.proofs.Basics.{and-then}
+use Rattle.plan.specs.declared.Counted.{Counted}
+use Rattle.plan.specs.declared.Cut.{Cut}
 use Rattle.plan.specs.declared.Place.{Place}
-use Rattle.plan.specs.Formula.{interimCount, reportsIn, durationAt, perFull, reportTotal, placeOf, unitsAt, endedAt}
+use Rattle.plan.specs.Formula.{interimCount, countedBy, durationAt, perFull, reportTotal, cutOf, placeBy, placeOf, unitsAt, segmentOf, endedAt}
 use Rattle.plan.proofs.Laws.{length-reports, in-place, report-at}
 
 -- THE RANGES, test by test in the order of the code
@@ -77,8 +79,24 @@ module _ (p : Plan) (h : lengthsInRange p ≡ true) where
   pub some-period : 1 ≤ p .period
   some-period = length-ranges p h .often
 
-  pub rest-fits : (r : ℕ) → r ≡ restUnits p → r ≤ 65535
-  rest-fits r e = omega (arith, mod-lt (p .length - 1) some-size, size-fits)
+  pub period-fits : p .period ≤ 65535
+  period-fits = length-ranges p h .seldom
+
+  pub within-16 : p .length - 1 < p .«segment_size» * 16
+  within-16 = omega (arith, length-ranges p h .most, some-length)
+
+  pub size-in-width : p .«segment_size» * 16 < 0x1_0000_0000
+  size-in-width = omega (arith, size-fits)
+
+  rest-fits : restUnits p ≤ 65535
+  rest-fits = omega (arith, mod-lt (p .length - 1) some-size, size-fits)
+
+  module _ (r m : ℕ) (rest : r ≡ (p .length - 1) % p .«segment_size») (one : m ≤ 1) where
+    pub last-narrow : r + m ≤ 65535
+    last-narrow = omega (arith, rest-fits)
+
+    pub last-fits : Fits w32 (r + m)
+    last-fits = record { fits = omega (arith, rest-fits) }
 
   -- the segments before the last
   few-full : fullSegments p ≤ 15
@@ -86,44 +104,60 @@ module _ (p : Plan) (h : lengthsInRange p ≡ true) where
 
 -- ONE SEGMENT
 
-pub one-more : (a size m : ℕ) → m ≤ 1 → 1 ≤ size → Fits w32 size → Fits w32 (a % size + m)
-one-more a size m l h f = record { fits = omega (arith, mod-lt a h, f .fits) }
+pub counted : (units period q : ℕ) → q ≡ (units - 1) / period → record { units = units; interim = q } ≡ countedBy period units
+counted units period q e = rw e
 
-module _ (units period n : ℕ) (interim : n ≡ interimCount period units) where
-  pub few-more : (m : ℕ) → m ≤ 3 → units ≤ 65535 → Fits w32 (n + m)
-  few-more m l h = record { fits = omega (arith, div-le-self (units - 1) period) }
+module _ (period : ℕ) (g : Counted) (e : g ≡ countedBy period (g .units)) where
+  count : g .interim ≡ interimCount period (g .units)
+  count = ap (λ (x : Counted). x .interim) e
 
-  pub before-end : (i : ℕ) → i < n → (i + 1) * period ≡ durationAt period units i
+  module _ (i : ℕ) (h : i < g .interim) where
+    pub before-end : (i + 1) * period ≡ durationAt period (g .units) i
+    unfolding durationAt
+    before-end = let k : i < interimCount period (g .units) = rw count at h in simp lt-ltb
+
+    -- a multiple of the period below the length
+    pub multiple-fits : 1 ≤ period → Fits w32 (g .units) → Fits w32 ((i + 1) * period)
+    multiple-fits some f =
+        let k : (i + 1) * period ≤ g .units - 1 = le-div-iff-mul-le some .0 (omega (arith, count)) in
+        record { fits = omega (arith, f .fits) }
+
+  pub at-end : (i : ℕ) → g .interim ≤ i → g .units ≡ durationAt period (g .units) i
   unfolding durationAt
-  before-end i h = let k : i < interimCount period units = rw interim at h in simp lt-ltb
-
-  pub at-end : (i : ℕ) → n ≤ i → (u : ℕ) → u ≡ units → u ≡ durationAt period units i
-  unfolding durationAt
-  at-end i h u e = let k : interimCount period units ≤ i = rw interim at h in rw e (simp le-ltb)
-
-  -- a multiple of the period below the length
-  next-within : 1 ≤ period → (i : ℕ) → i < n → (i + 1) * period ≤ units
-  next-within h i l =
-      let k : (i + 1) * period ≤ units - 1 = le-div-iff-mul-le h .0 (omega arith) in
-      omega arith
+  at-end i h = let k : interimCount period (g .units) ≤ i = rw count at h in simp le-ltb
 
 -- THE COUNT
 
-module _ (p : Plan) (h : lengthsInRange p ≡ true) (n a : ℕ) (full : n ≡ fullSegments p) (per : a ≡ perFull p) where
-  full-reports : n * a ≤ 983055
+module _ (p : Plan) (h : lengthsInRange p ≡ true) (q : ℕ) (full : q ≡ fullSegments p)
+    (each : Counted) (e : each ≡ countedBy (p .period) (p .«segment_size»)) where
+  full-reports : q * (each .interim + 3) ≤ 983055
   full-reports =
-      let l : n ≤ 15 = omega (arith, few-full p h) in
-      omega (arith, mul-le-mul-right a l, div-le-self (p .«segment_size» - 1) (p .period), size-fits p h)
+      let few : q ≤ 15 = omega (arith, few-full p h) in
+      let per : each .interim ≤ 65534 = rw e (omega (arith, div-le-self (p .«segment_size» - 1) (p .period), size-fits p h)) in
+      omega (arith, mul-le-mul-right (each .interim + 3) few)
 
-  pub full-fit : Fits w32 (n * a)
+  pub full-fit : Fits w32 (q * (each .interim + 3))
   full-fit = record { fits = omega (arith, full-reports) }
 
-  module _ (r b : ℕ) (rest : r ≡ restUnits p) (last : b ≡ reportsIn (p .period) r) where
-    pub all-fit : Fits w32 (n * a + b)
-    all-fit = record { fits = omega (arith, full-reports, div-le-self (r - 1) (p .period), rest-fits p h r rest) }
+  module _ (r : ℕ) (rest : r ≡ (p .length - 1) % p .«segment_size») (last : Counted) (l : last ≡ countedBy (p .period) (r + 1)) where
+    pub all-fit : Fits w32 (q * (each .interim + 3) + (last .interim + 3))
+    all-fit =
+        let few : last .interim ≤ 65534 = rw l (omega (arith, div-le-self (r + 1 - 1) (p .period), last-narrow p h r 1 rest (omega arith))) in
+        record { fits = omega (arith, full-reports) }
 
-    pub all-counted : n * a + b ≡ length (reports p)
-    all-counted = rw (length-reports p, full, per, last, rest)
+    pub cut-up : record { full = q; each = each; last = last; total = q * (each .interim + 3) + (last .interim + 3) } ≡ cutOf p
+    cut-up = rw (full, e, l, rest)
+
+-- the reports of a segment fit
+pub few-more : (units period m : ℕ) (g : Counted) → g ≡ countedBy period units → units ≤ 65535 → m ≤ 3 → Fits w32 (g .interim + m)
+few-more units period m g e h k = rw e (record { fits = omega (arith, div-le-self (units - 1) period) })
+
+module _ (p : Plan) (c : Cut) (e : c ≡ cutOf p) where
+  pub total-counts : c .total ≡ length (reports p)
+  total-counts = rw e (sym (length-reports p))
+
+  pub number-within : (k : ℕ) → k ≤ c .total → k ≤ length (reports p)
+  number-within k h = omega (arith, total-counts)
 
 module _ (codes : Codes) (p : Plan) (b : Bool) (tested : b ≡ planInRange codes p) where
   pub refused : not b ≡ true → toldCount (Refused 12) ≡ reportCount codes p
@@ -135,83 +169,97 @@ module _ (codes : Codes) (p : Plan) (b : Bool) (tested : b ≡ planInRange codes
       let code = and-then (isIn codes (p .code)) _ (type .1) in
       and-then (leb (p .volume) 63) (lengthsInRange p) (code .1) .1
 
-  pub counted : not b ≡ false → (n : ℕ) → n ≡ length (reports p) → toldCount (Reports n) ≡ reportCount codes p
-  counted h n e = rw (← tested, not-false b h, e)
+  pub all-told : not b ≡ false → (c : Cut) → c ≡ cutOf p → toldCount (Reports (c .total)) ≡ reportCount codes p
+  all-told h c e = rw (← tested, not-false b h, total-counts p c e)
 
 -- A REPORT
 
-module _ (p : Plan) (n : ℕ) (full : n ≡ fullSegments p) where
-  pub a-full : (j : ℕ) → j < n → p .«segment_size» ≡ unitsAt p j
-  unfolding unitsAt
-  a-full j h = let k : j < fullSegments p = rw full at h in simp lt-ltb
+module _ (c : Cut) where
+  pub a-full : (j : ℕ) → j < c .full → c .each ≡ segmentOf c j
+  unfolding segmentOf
+  a-full j h = simp lt-ltb
 
-  pub the-last : (j : ℕ) → n ≤ j → (r : ℕ) → r ≡ restUnits p → r ≡ unitsAt p j
-  unfolding unitsAt
-  the-last j h r e = let k : fullSegments p ≤ j = rw full at h in rw e (simp le-ltb)
+  pub the-last : (j : ℕ) → c .full ≤ j → c .last ≡ segmentOf c j
+  unfolding segmentOf
+  the-last j h = simp le-ltb
 
-  pub goes-on : (at : Place) → at .segment < n → false ≡ endedAt p at
+  pub goes-on : (at : Place) → at .segment < c .full → false ≡ endedAt c at
   unfolding endedAt
-  goes-on at h = let k : at .segment < fullSegments p = rw full at h in simp lt-ltb
+  goes-on at h = simp lt-ltb
 
-  pub may-end : (at : Place) → n ≤ at .segment → (c : ℕ) → c ≡ interimCount (p .period) (unitsAt p (at .segment))
-      → ltb c (at .index) ≡ endedAt p at
+  pub may-end : (at : Place) → c .full ≤ at .segment → ltb (c .last .interim) (at .index) ≡ endedAt c at
   unfolding endedAt
-  may-end at h c e = let k : fullSegments p ≤ at .segment = rw full at h in rw e (simp le-ltb)
+  may-end at h = simp le-ltb
 
-  -- the interim reports of a segment are those of a full one, or of the last
-  pub interim-full : (j : ℕ) → j < n → (c : ℕ) → c ≡ interimCount (p .period) (p .«segment_size») → c ≡ interimCount (p .period) (unitsAt p j)
-  interim-full j h c e = rw (← a-full j h) e
+pub placed : (per i q r : ℕ) → q ≡ i / per → r ≡ i % per → record { segment = q; index = r } ≡ placeBy per i
+placed per i q r e f = rw (e, f)
 
-  pub interim-last : (j : ℕ) → n ≤ j → (r : ℕ) → r ≡ restUnits p → (c : ℕ) → c ≡ interimCount (p .period) r → c ≡ interimCount (p .period) (unitsAt p j)
-  interim-last j h r f c e = rw (← the-last j h r f) e
+module _ (p : Plan) (h : lengthsInRange p ≡ true) (c : Cut) (cut : c ≡ cutOf p) where
+  -- the reports of a full segment
+  per : c .each .interim + 3 ≡ perFull p
+  per = rw cut
 
--- no segment is longer than the size, so a multiple of the period within it fits
-units-fit : (p : Plan) → lengthsInRange p ≡ true → (j : ℕ) → unitsAt p j ≤ 65535
-unfolding unitsAt
-units-fit p h j = go (ltb j (fullSegments p))
-  where
-    go : (b : Bool) → cond b (p .«segment_size») (restUnits p) ≤ 65535
-    go true = size-fits p h
-    go false = rest-fits p h (restUnits p) refl
+  pub per-narrow : c .each .interim + 3 ≤ 65537
+  per-narrow = omega (arith, per, div-le-self (p .«segment_size» - 1) (p .period), size-fits p h)
 
-module _ (p : Plan) (h : lengthsInRange p ≡ true) (j i n : ℕ) (interim : n ≡ interimCount (p .period) (unitsAt p j)) (l : i < n) where
-  pub number-fits : Fits w32 (i + 1)
-  number-fits = record { fits = omega (arith, interim, div-le-self (unitsAt p j - 1) (p .period), units-fit p h j) }
+  pub per-fits : Fits w32 (c .each .interim + 3)
+  per-fits = record { fits = omega (arith, per-narrow) }
 
-  pub multiple-fits : Fits w32 ((i + 1) * p .period)
-  multiple-fits = record { fits = omega (arith, next-within (unitsAt p j) (p .period) n interim (some-period p h) i l, units-fit p h j) }
+  -- a segment by its number is counted by its own units
+  module _ (j : ℕ) (g : Counted) (e : g ≡ segmentOf c j) where
+    by-units : g ≡ countedBy (p .period) (unitsAt p j)
+    unfolding segmentOf unitsAt
+    by-units = e ∙ rw cut (go (ltb j (fullSegments p)))
+      where
+        go : (b : Bool) → cond b (countedBy (p .period) (p .«segment_size»)) (countedBy (p .period) (restUnits p))
+            ≡ countedBy (p .period) (cond b (p .«segment_size») (restUnits p))
+        go true = refl
+        go false = refl
 
-pub placed : (p : Plan) (i a : ℕ) → a ≡ perFull p → record { segment = i / a; index = i % a } ≡ placeOf p i
-placed p i a per = rw per
+    its-units : g .units ≡ unitsAt p j
+    its-units = ap (λ (x : Counted). x .units) by-units
 
-module _ (p : Plan) (h : lengthsInRange p ≡ true) (i k : ℕ) (number : i ≡ k - 1) (first : 1 ≤ k) (last : k ≤ length (reports p))
-    (at : Place) (place : at ≡ placeOf p i) where
-  in-plan : i < reportTotal p
-  in-plan = omega (arith, length-reports p)
+    pub by-own-units : g ≡ countedBy (p .period) (g .units)
+    by-own-units = by-units ∙ ap (countedBy (p .period)) (sym its-units)
 
-  pub offset-fits : (size : ℕ) → size ≤ 65535 → Fits w32 (at .segment * size)
-  offset-fits size narrow =
-      let w = in-place p (some-size p h) (some-period p h) i in-plan in
-      let few : placeOf p i .segment ≤ 15 = omega (arith, w .segment, few-full p h) in
-      rw place (record { fits = omega (arith, mul-le-mul-right size few) })
+  module _ (i k : ℕ) (number : i ≡ k - 1) (first : 1 ≤ k) (last : k ≤ length (reports p)) where
+    in-plan : i < reportTotal p
+    in-plan = omega (arith, length-reports p)
 
-  pub as-planned : (d : ℕ) → d ≡ durationAt (p .period) (unitsAt p (at .segment)) (at .index)
-      → (e : Bool) → e ≡ endedAt p at
-      → (s t : ℕ) → s ≡ (p .sequence + i) % 65536 → t ≡ (p .start + at .segment * p .«segment_size») % 0x1_0000_0000
-      → record {
-        marker = eqb i 0;
-        «payload_type» = p .«payload_type»;
-        sequence = s;
-        timestamp = t;
-        ssrc = p .ssrc;
-        code = p .code;
-        ended = e;
-        volume = p .volume;
-        duration = d;
-      } ≡ reportAt p k
-  unfolding reportAt
-  as-planned d duration e ended s t sequence timestamp =
-      rw (sequence, timestamp, ended, duration, place, ← number, report-at p (some-size p h) (some-period p h) i in-plan)
+    few-before : placeOf p i .segment ≤ 15
+    few-before = omega (arith, in-place p (some-size p h) (some-period p h) i in-plan .segment, few-full p h)
+
+    pub within-16-segments : i < (c .each .interim + 3) * 16
+    within-16-segments =
+        let l : i < 16 * perFull p = div-lt-iff-lt-mul {k = perFull p} {x = i} {y = 16} (omega arith) .0 (omega (arith, few-before)) in
+        omega (arith, per)
+
+    module _ (at : Place) (place : at ≡ placeBy (c .each .interim + 3) i) where
+      as-placed : at ≡ placeOf p i
+      as-placed = place ∙ ap (λ (x : ℕ). placeBy x i) per
+
+      pub offset-fits : (size : ℕ) → size ≤ 65535 → Fits w32 (at .segment * size)
+      offset-fits size narrow = rw as-placed (record { fits = omega (arith, mul-le-mul-right size few-before) })
+
+      pub as-planned : (g : Counted) → g ≡ segmentOf c (at .segment)
+          → (d : ℕ) → d ≡ durationAt (p .period) (g .units) (at .index)
+          → (e : Bool) → e ≡ endedAt c at
+          → (s t : ℕ) → s ≡ (p .sequence + i) % 65536 → t ≡ (p .start + at .segment * p .«segment_size») % 0x1_0000_0000
+          → record {
+            marker = eqb i 0;
+            «payload_type» = p .«payload_type»;
+            sequence = s;
+            timestamp = t;
+            ssrc = p .ssrc;
+            code = p .code;
+            ended = e;
+            volume = p .volume;
+            duration = d;
+          } ≡ reportAt p k
+      unfolding reportAt
+      as-planned g of d duration e ended s t sequence timestamp =
+          rw
+          (sequence, timestamp, ended, duration, its-units (at .segment) g of, as-placed, cut, ← number, report-at p (some-size p h) (some-period p h) i in-plan)
 
 pub ruleset planning = (
   needs,
@@ -228,27 +276,32 @@ pub ruleset planning = (
   some-length,
   some-size,
   size-fits,
-  rest-fits,
   some-period,
-  one-more,
-  few-more,
+  period-fits,
+  within-16,
+  size-in-width,
+  last-narrow,
+  last-fits,
+  counted,
   before-end,
+  multiple-fits,
   at-end,
   full-fit,
+  few-more,
   all-fit,
-  all-counted,
+  cut-up,
   refused,
   passed,
-  counted,
+  all-told,
   a-full,
   the-last,
   goes-on,
   may-end,
-  interim-full,
-  interim-last,
-  number-fits,
-  multiple-fits,
   placed,
+  per-narrow,
+  per-fits,
+  by-own-units,
+  within-16-segments,
   offset-fits,
   as-planned,
 )

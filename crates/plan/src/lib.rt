@@ -1,17 +1,32 @@
 // The sender's plan for one event by formula, with no list: how many reports it has, and the report at a number.
-ghost use Prim.Native.Nat.{_+_, _%_, _≤_};
+ghost use Prim.Native.Nat.{_+_, _*_, _%_, _≤_, _<_};
 ghost use mathlib.Core.Path.{_≡_};
 ghost use mathlib.Core.Bool.{true};
 ghost use lib.ListN.{length};
 ghost use Rattle.model.specs.Refusals.{toldCount, toldWrite};
-ghost use Rattle.model.specs.Plan.{fullSegments, restUnits, lengthsInRange, planInRange, reportCount, reports, reportAt, writeReport};
-ghost use Rattle.plan.specs.Formula.{interimCount, reportsIn, durationAt, placeOf, unitsAt, endedAt};
+ghost use Rattle.model.specs.Plan.{lengthsInRange, planInRange, reportCount, reports, reportAt, writeReport};
+ghost use Rattle.plan.specs.Formula.{countedBy, cutOf, placeBy, segmentOf, durationAt, endedAt};
 use codes::contains;
+use division::divide;
 use model::Codes;
 use model::CountAnswer;
 use model::Plan;
 use model::Report;
 use model::WriteAnswer;
+
+// A segment in numbers: its units, and how many of its reports come before its end.
+struct Counted {
+    units: u32,
+    interim: u32,
+}
+
+// The event in numbers: how many full segments come before the last, what a full one and the last are, and all reports.
+struct Cut {
+    full: u32,
+    each: Counted,
+    last: Counted,
+    total: u32,
+}
 
 // Where a report stands: its segment, and its place among that segment's reports. Both count from 0.
 struct Place {
@@ -57,49 +72,35 @@ fn in_range(codes: Codes, p: Plan) -> bool
     lengths_in_range(p)
 }
 
-// The segments before the last. The last holds at least one unit, so a length of one size has none before it.
-fn full_segments(p: Plan) -> u32
-    requires { ⌜ 1 ≤ p .length ⌝ }
-    requires { ⌜ 1 ≤ p .«segment_size» ⌝ }
-    ensures { λ r. ⌜ r ≡ fullSegments p ⌝ }
-{
-    (p.length - 1) / p.segment_size
-}
-
-// The units of the last segment: what the full ones leave, 1 to the size.
-fn rest_units(p: Plan) -> u32
-    requires { ⌜ 1 ≤ p .length ⌝ }
-    requires { ⌜ 1 ≤ p .«segment_size» ⌝ }
-    ensures { λ r. ⌜ r ≡ restUnits p ⌝ }
-{
-    (p.length - 1) % p.segment_size + 1
-}
-
-// The reports of a segment before its end: one at each multiple of the period below its length.
-fn interim_count(units: u32, period: u32) -> u32
-    requires { ⌜ 1 ≤ units ⌝ }
-    requires { ⌜ 1 ≤ period ⌝ }
-    ensures { λ r. ⌜ r ≡ interimCount period units ⌝ }
-{
-    (units - 1) / period
-}
-
-// All reports of a segment: three more at its end.
-fn reports_in(units: u32, period: u32) -> u32
+// A segment of so many units has an interim report at each multiple of the period below its length.
+fn count_reports(units: u32, period: u32) -> Counted
     requires { ⌜ 1 ≤ units ⌝ }
     requires { ⌜ units ≤ 65535 ⌝ }
     requires { ⌜ 1 ≤ period ⌝ }
-    ensures { λ r. ⌜ r ≡ reportsIn period units ⌝ }
+    requires { ⌜ period ≤ 65535 ⌝ }
+    ensures { λ r. ⌜ r ≡ countedBy period units ⌝ }
 {
-    interim_count(units, period) + 3
+    Counted {
+        units: units,
+        interim: divide(units - 1, period, 16).quotient,
+    }
 }
 
-// The plan's reports: each full segment has the same number, the last its own.
-fn total(p: Plan) -> u32
+// What the plan's divisions tell, each made once. The last segment holds at least one unit, so a length of one size has no full one
+// before it; three reports more stand at each segment's end.
+fn cut_of(p: Plan) -> Cut
     requires { ⌜ lengthsInRange p ≡ true ⌝ }
-    ensures { λ r. ⌜ r ≡ length (reports p) ⌝ }
+    ensures { λ r. ⌜ r ≡ cutOf p ⌝ }
 {
-    full_segments(p) * reports_in(p.segment_size, p.period) + reports_in(rest_units(p), p.period)
+    let segments = divide(p.length - 1, p.segment_size, 4);
+    let each = count_reports(p.segment_size, p.period);
+    let last = count_reports(segments.remainder + 1, p.period);
+    Cut {
+        full: segments.quotient,
+        each: each,
+        last: last,
+        total: segments.quotient * (each.interim + 3) + (last.interim + 3),
+    }
 }
 
 // How many reports the plan has, or 12, also for a code outside the set.
@@ -109,88 +110,78 @@ pub fn report_count(codes: Codes, p: Plan) -> CountAnswer
     if !in_range(codes, p) {
         return CountAnswer::Refused(model::OUT_OF_RANGE);
     }
-    CountAnswer::Reports(total(p))
+    CountAnswer::Reports(cut_of(p).total)
 }
 
-// Where report i stands, from 0: no segment has more reports than a full one, so one division tells.
-fn place_of(p: Plan, i: u32) -> Place
-    requires { ⌜ lengthsInRange p ≡ true ⌝ }
-    ensures { λ r. ⌜ r ≡ placeOf p i ⌝ }
+// Where report i stands, from 0, if each segment but the last has so many reports: the last has no more, so one division tells.
+fn place_of(per: u32, i: u32) -> Place
+    requires { ⌜ i < per * 16 ⌝ }
+    requires { ⌜ per ≤ 65537 ⌝ }
+    ensures { λ r. ⌜ r ≡ placeBy per i ⌝ }
 {
-    let per = reports_in(p.segment_size, p.period);
+    let at = divide(i, per, 4);
     Place {
-        segment: i / per,
-        index: i % per,
+        segment: at.quotient,
+        index: at.remainder,
     }
 }
 
-// The units of a segment: every one but the last is full.
-fn units_of(p: Plan, segment: u32) -> u32
-    requires { ⌜ lengthsInRange p ≡ true ⌝ }
-    ensures { λ r. ⌜ r ≡ unitsAt p segment ⌝ }
+// A segment by its number: every one but the last is full.
+fn segment_at(c: Cut, j: u32) -> Counted
+    ensures { λ r. ⌜ r ≡ segmentOf c j ⌝ }
 {
-    if segment < full_segments(p) {
-        return p.segment_size;
+    if j < c.full {
+        return c.each;
     }
-    rest_units(p)
-}
-
-// The reports of a segment before its end. Both counts are those of `total`, so that none is divided for again.
-fn interim_of(p: Plan, segment: u32) -> u32
-    requires { ⌜ lengthsInRange p ≡ true ⌝ }
-    ensures { λ r. ⌜ r ≡ interimCount (p .period) (unitsAt p segment) ⌝ }
-{
-    if segment < full_segments(p) {
-        return interim_count(p.segment_size, p.period);
-    }
-    interim_count(rest_units(p), p.period)
+    c.last
 }
 
 // The duration a report says: the next multiple of the period, or at the end the segment's length.
-fn duration_at(p: Plan, segment: u32, index: u32) -> u32
-    requires { ⌜ lengthsInRange p ≡ true ⌝ }
-    ensures { λ r. ⌜ r ≡ durationAt (p .period) (unitsAt p segment) index ⌝ }
+fn duration_at(g: Counted, period: u32, index: u32) -> u32
+    requires { ⌜ g ≡ countedBy period (g .units) ⌝ }
+    requires { ⌜ 1 ≤ period ⌝ }
+    ensures { λ r. ⌜ r ≡ durationAt period (g .units) index ⌝ }
 {
-    if index < interim_of(p, segment) {
-        return (index + 1) * p.period;
+    if index < g.interim {
+        return (index + 1) * period;
     }
-    units_of(p, segment)
+    g.units
 }
 
 // E: on the last two reports of the last segment.
-fn ended_at(p: Plan, at: Place) -> bool
-    requires { ⌜ lengthsInRange p ≡ true ⌝ }
-    ensures { λ r. ⌜ r ≡ endedAt p at ⌝ }
+fn ended_at(c: Cut, at: Place) -> bool
+    ensures { λ r. ⌜ r ≡ endedAt c at ⌝ }
 {
-    if at.segment < full_segments(p) {
+    if at.segment < c.full {
         return false;
     }
-    interim_of(p, at.segment) < at.index
+    c.last.interim < at.index
 }
 
 // The sequence number after so many reports, modulo 65,536.
 fn sequence_after(first: u16, before: u32) -> u16
     ensures { λ r. ⌜ r ≡ (first + before) % 65536 ⌝ }
 {
-    ((first as u64 + before as u64) % 65536) as u16
+    ((first as u64 + before as u64) & 0xffff) as u16
 }
 
 // The timestamp so many units after the start, modulo 2^32.
 fn timestamp_at(start: u32, offset: u32) -> u32
     ensures { λ r. ⌜ r ≡ (start + offset) % 0x1_0000_0000 ⌝ }
 {
-    ((start as u64 + offset as u64) % 0x1_0000_0000) as u32
+    ((start as u64 + offset as u64) & 0xffff_ffff) as u32
 }
 
 // Report k of the plan, from 1: all of it follows from where the report stands.
-fn planned(p: Plan, k: u32) -> Report
+fn planned(p: Plan, c: Cut, k: u32) -> Report
     requires { ⌜ lengthsInRange p ≡ true ⌝ }
+    requires { ⌜ c ≡ cutOf p ⌝ }
     requires { ⌜ 1 ≤ k ⌝ }
     requires { ⌜ k ≤ length (reports p) ⌝ }
     ensures { λ r. ⌜ r ≡ reportAt p k ⌝ }
 {
     let i = k - 1;
-    let at = place_of(p, i);
+    let at = place_of(c.each.interim + 3, i);
     Report {
         marker: i == 0,
         payload_type: p.payload_type,
@@ -198,9 +189,9 @@ fn planned(p: Plan, k: u32) -> Report
         timestamp: timestamp_at(p.start, at.segment * p.segment_size),
         ssrc: p.ssrc,
         code: p.code,
-        ended: ended_at(p, at),
+        ended: ended_at(c, at),
         volume: p.volume,
-        duration: duration_at(p, at.segment, at.index),
+        duration: duration_at(segment_at(c, at.segment), p.period, at.index),
     }
 }
 
@@ -215,9 +206,10 @@ pub fn write_report(codes: Codes, p: Plan, k: u32, out: &mut [u8]) -> WriteAnswe
     if k == 0 {
         return WriteAnswer::Refused(model::NO_SUCH_NUMBER);
     }
-    if total(p) < k {
+    let c = cut_of(p);
+    if c.total < k {
         return WriteAnswer::Refused(model::NO_SUCH_NUMBER);
     }
-    let r = planned(p, k);
+    let r = planned(p, c, k);
     writer::write(codes, r, out)
 }

@@ -14,26 +14,26 @@ use model::WriteAnswer;
 pub fn upper(x: u16) -> u8
     ensures { λ r. ⌜ r ≡ x / 256 % 256 ⌝ }
 {
-    (x / 256 % 256) as u8
+    ((x >> 8) & 0xff) as u8
 }
 
 pub fn lower(x: u16) -> u8
     ensures { λ r. ⌜ r ≡ x % 256 ⌝ }
 {
-    (x % 256) as u8
+    (x & 0xff) as u8
 }
 
 // The upper and the lower half of 32 bits.
 pub fn upper_half(x: u32) -> u16
     ensures { λ r. ⌜ r ≡ x / 65536 ⌝ }
 {
-    (x / 65536) as u16
+    (x >> 16) as u16
 }
 
 pub fn lower_half(x: u32) -> u16
     ensures { λ r. ⌜ r ≡ x % 65536 ⌝ }
 {
-    (x % 65536) as u16
+    (x & 0xffff) as u16
 }
 
 // A byte with a flag above seven bits.

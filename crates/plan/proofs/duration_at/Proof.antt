@@ -1,13 +1,11 @@
 -- Before the end the next multiple of the period, which is below the segment's length and so fits; then the length.
 use Rattle.plan.proofs.Ways.{planning}
+use borrow.Author.Needs.{needs}
 use Rattle.plan.proofs.duration_at.Statement.{statement}
 use Rattle.plan.proofs.duration_at.Tie as tie
 
-interim-of-requires : tie.Need-interim-of-requires
-interim-of-requires c κs = search planning
-
 add-result : tie.Need-add-result
-add-result c = search planning
+add-result c = search needs
 
 mul-result : tie.Need-mul-result
 mul-result c = search planning
@@ -15,12 +13,8 @@ mul-result c = search planning
 returns : tie.Need-returns
 returns c = search planning
 
-units-of-requires : tie.Need-units-of-requires
-units-of-requires c κs = search planning
-
 returns-2 : tie.Need-returns-2
 returns-2 c = search planning
 
 pub duration-at-spec : {M : Type 1} → statement M
-duration-at-spec =
-    tie.close (tie.spec interim-of-requires add-result mul-result returns units-of-requires returns-2)
+duration-at-spec = tie.close (tie.spec add-result mul-result returns returns-2)

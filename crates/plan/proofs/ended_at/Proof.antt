@@ -3,18 +3,11 @@ use Rattle.plan.proofs.Ways.{planning}
 use Rattle.plan.proofs.ended_at.Statement.{statement}
 use Rattle.plan.proofs.ended_at.Tie as tie
 
-full-segments-requires : tie.Need-full-segments-requires
-full-segments-requires c κs = search planning
-
 returns : tie.Need-returns
 returns c = search planning
-
-interim-of-requires : tie.Need-interim-of-requires
-interim-of-requires c κs = search planning
 
 returns-2 : tie.Need-returns-2
 returns-2 c = search planning
 
 pub ended-at-spec : {M : Type 1} → statement M
-ended-at-spec =
-    tie.close (tie.spec full-segments-requires returns interim-of-requires returns-2)
+ended-at-spec = tie.close (tie.spec returns returns-2)

@@ -1,10 +1,11 @@
 -- The ways through `planRefusal`; past them the report is the plan's, and the packet's writer does the rest.
 use Rattle.plan.proofs.Output.{writing-reports}
+use borrow.Author.Needs.{needs}
 use Rattle.plan.proofs.write_report.Statement.{statement}
 use Rattle.plan.proofs.write_report.Tie as tie
 
 in-range-requires : tie.Need-in-range-requires
-in-range-requires c κs = search writing-reports
+in-range-requires c κs = search needs
 
 returns : tie.Need-returns
 returns c = search writing-reports
@@ -12,20 +13,20 @@ returns c = search writing-reports
 returns-2 : tie.Need-returns-2
 returns-2 c = search writing-reports
 
-total-requires : tie.Need-total-requires
-total-requires c κs = search writing-reports
+cut-of-requires : tie.Need-cut-of-requires
+cut-of-requires c κs = search writing-reports
 
 returns-3 : tie.Need-returns-3
 returns-3 c = search writing-reports
 
 planned-requires : tie.Need-planned-requires
-planned-requires c κs = search writing-reports
+planned-requires c κs = (search writing-reports, (search writing-reports, (search writing-reports, search writing-reports)))
 
 write-requires : tie.Need-write-requires
-write-requires c κs = search writing-reports
+write-requires c κs = search needs
 
 same-length : tie.Need-same-length
-same-length c = search writing-reports
+same-length c = search needs
 
 returns-4 : tie.Need-returns-4
 returns-4 c = search writing-reports
@@ -37,7 +38,7 @@ write-report-spec =
     in-range-requires
     returns
     returns-2
-    total-requires
+    cut-of-requires
     returns-3
     planned-requires
     write-requires
