@@ -1,4 +1,5 @@
-/* A plan's two calls: ours against plain C behind the same boundary, in turns, the best of many rounds of each. */
+/* A plan's two calls: ours against plain C behind the same boundary, once with the divide instruction, which ours does without, and once
+ * by shifts and subtractions; in turns, the best of many rounds of each. */
 #include "clock.h"
 #include "plain/plain.h"
 #include <stdio.h>
@@ -7,9 +8,13 @@
 
 /* Many plans, so that a processor does not learn the branches of each. */
 enum { PLANS = 4096, TURNS = 6, ROUNDS = 600, CHECKS = 2000000 };
+enum { OURS, PLAIN, BY_SHIFTS, WAYS };
 static twimbor_plan plans[PLANS];
 static uint32_t numbers[PLANS];
 static const twimbor_codes codes = {0xffff, 0x44, 0, 0}; /* 0-15,66,70 */
+
+typedef twimbor_count_result count_call(twimbor_codes codes, twimbor_plan plan);
+typedef uint8_t write_call(twimbor_codes codes, twimbor_plan plan, uint32_t k, uint8_t *output, size_t bytes);
 
 /* 0 to n - 1, the same in every run. */
 static uint32_t below(uint32_t n)
@@ -33,12 +38,12 @@ static twimbor_plan any_plan(void)
     return (twimbor_plan){101, 7, (uint16_t)below(65536), start, PICK(members), below(64), PICK(lengths), PICK(periods), size};
 }
 
-/* The same with one number somewhat off, so that most are refused. */
+/* The same with one number somewhat off, so that most are refused, or with a small period, so that the quotients are large. */
 static twimbor_plan other_plan(void)
 {
     twimbor_plan p = any_plan();
     uint32_t sizes = 16 * p.segment_size, one_off = below(3) - 1, near[] = {16, 66, 70, 255, 256 + 66};
-    switch (below(7)) {
+    switch (below(8)) {
     case 0: p.payload_type = 128 + one_off; break;
     case 1: p.code = PICK(near) + one_off; break;
     case 2: p.volume = 64 + one_off; break;
@@ -46,28 +51,48 @@ static twimbor_plan other_plan(void)
     case 4: p.period = (below(2) ? 65535 : 0) + one_off; break;
     case 5: p.segment_size = (below(2) ? 65535 : 0) + one_off; break;
     case 6: p.segment_size += 1u << (16 + below(16)); break;
+    case 7: p.period = 1 + below(1u << below(12)); break;
     }
     return p;
+}
+
+/* What a way to plan answers: the count, and what becomes of an output that is lent so many bytes for report k. */
+typedef struct {
+    twimbor_count_result count;
+    uint8_t refusal, output[20];
+} answers;
+
+static answers answers_of(count_call *count, write_call *write, twimbor_plan p, uint32_t k, size_t bytes)
+{
+    answers a = {.count = count(codes, p)};
+    memset(a.output, 0xAB, sizeof a.output);
+    a.refusal = write(codes, p, k, a.output, bytes);
+    return a;
+}
+
+static bool same(answers a, answers b)
+{
+    return a.count.reports == b.count.reports && a.count.refusal == b.count.refusal && a.refusal == b.refusal
+        && memcmp(a.output, b.output, sizeof a.output) == 0;
 }
 
 /* The answers and every byte, with report numbers and outputs on both sides of their edges. */
 static void compare(twimbor_plan p)
 {
-    uint8_t ours[20], plain[20];
-    twimbor_count_result a = twimbor_report_count(codes, p), b = plain_report_count(codes, p);
-    uint32_t edges[] = {0, 1, a.reports - 1, a.reports, a.reports + 1, UINT32_MAX, 1 + below(a.reports + 1), below(1 << 30) * 4};
+    uint32_t n = twimbor_report_count(codes, p).reports;
+    uint32_t edges[] = {0, 1, n - 1, n, n + 1, UINT32_MAX, 1 + below(n + 1), below(1 << 30) * 4};
     uint32_t k = PICK(edges);
     size_t bytes = below(8) ? 16 + below(5) : below(16);
-    memset(ours, 0xAB, sizeof ours);
-    memset(plain, 0xAB, sizeof plain);
-    uint8_t c = twimbor_write_report(codes, p, k, ours, bytes), d = plain_write_report(codes, p, k, plain, bytes);
-    if (a.reports != b.reports || a.refusal != b.refusal || c != d || memcmp(ours, plain, sizeof ours) != 0) {
+    answers ours = answers_of(twimbor_report_count, twimbor_write_report, p, k, bytes);
+    answers plain = answers_of(plain_report_count, plain_write_report, p, k, bytes);
+    answers by_shifts = answers_of(plain_report_count_by_shifts, plain_write_report_by_shifts, p, k, bytes);
+    if (!same(ours, plain) || !same(ours, by_shifts)) {
         printf("report %u of a plan differs: length %u, period %u, segment size %u\n", k, p.length, p.period, p.segment_size);
         exit(1);
     }
 }
 
-static double round_of_count(twimbor_count_result (*count)(twimbor_codes, twimbor_plan), uint64_t *sum)
+static double round_of_count(count_call *count, uint64_t *sum)
 {
     double start = now();
     for (int turn = 0; turn < TURNS; turn++)
@@ -78,7 +103,7 @@ static double round_of_count(twimbor_count_result (*count)(twimbor_codes, twimbo
     return (now() - start) / ((double)TURNS * PLANS);
 }
 
-static double round_of_write(uint8_t (*write)(twimbor_codes, twimbor_plan, uint32_t, uint8_t *, size_t), uint64_t *sum)
+static double round_of_write(write_call *write, uint64_t *sum)
 {
     static uint8_t output[16];
     double start = now();
@@ -90,6 +115,12 @@ static double round_of_write(uint8_t (*write)(twimbor_codes, twimbor_plan, uint3
     return (now() - start) / ((double)TURNS * PLANS);
 }
 
+static void print(const char *call, const double *ns)
+{
+    printf("plan, %s: %.2f ns, plain C %.2f ns, ratio %.2f, plain C by shifts %.2f ns, ratio %.2f\n", call, ns[OURS],
+           ns[PLAIN], ns[OURS] / ns[PLAIN], ns[BY_SHIFTS], ns[OURS] / ns[BY_SHIFTS]);
+}
+
 int main(void)
 {
     for (int i = 0; i < CHECKS; i++) compare(i % 2 ? any_plan() : other_plan());
@@ -97,16 +128,18 @@ int main(void)
         plans[i] = any_plan();
         numbers[i] = 1 + below(twimbor_report_count(codes, plans[i]).reports);
     }
-    uint64_t ours = 0, plain = 0;
-    double count = 1e18, plain_count = 1e18, write = 1e18, plain_write = 1e18;
+    uint64_t sums[WAYS] = {0};
+    double counts[WAYS] = {1e18, 1e18, 1e18}, writes[WAYS] = {1e18, 1e18, 1e18};
     for (int round = 0; round < ROUNDS; round++) {
-        least(&count, round_of_count(twimbor_report_count, &ours));
-        least(&plain_count, round_of_count(plain_report_count, &plain));
-        least(&write, round_of_write(twimbor_write_report, &ours));
-        least(&plain_write, round_of_write(plain_write_report, &plain));
+        least(&counts[OURS], round_of_count(twimbor_report_count, &sums[OURS]));
+        least(&counts[PLAIN], round_of_count(plain_report_count, &sums[PLAIN]));
+        least(&counts[BY_SHIFTS], round_of_count(plain_report_count_by_shifts, &sums[BY_SHIFTS]));
+        least(&writes[OURS], round_of_write(twimbor_write_report, &sums[OURS]));
+        least(&writes[PLAIN], round_of_write(plain_write_report, &sums[PLAIN]));
+        least(&writes[BY_SHIFTS], round_of_write(plain_write_report_by_shifts, &sums[BY_SHIFTS]));
     }
-    if (ours != plain) { printf("the two plans differ\n"); return 1; }
-    printf("plan, report count: %.2f ns, plain C %.2f ns, ratio %.2f, at most 1.5\n", count, plain_count, count / plain_count);
-    printf("plan, write report: %.2f ns, plain C %.2f ns, ratio %.2f, at most 1.5\n", write, plain_write, write / plain_write);
+    if (sums[PLAIN] != sums[OURS] || sums[BY_SHIFTS] != sums[OURS]) { printf("the plans differ\n"); return 1; }
+    print("report count", counts);
+    print("write report", writes);
     return 0;
 }

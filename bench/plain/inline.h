@@ -1,9 +1,6 @@
 /* What table.c, capture.c and redundant.c need of a table and of a packet. */
 #include "plain.h"
 
-/* In each caller: a copy that they share costs a call. */
-#define INLINE static inline __attribute__((always_inline))
-
 enum { E = 1 << 16, M = 1 << 17 };
 
 static inline uint8_t code(uint64_t key) { return (uint8_t)key; }

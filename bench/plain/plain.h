@@ -2,6 +2,9 @@
 #include "../../include/twimbor.h"
 #include <string.h>
 
+/* In each caller: a copy that they share costs a call. */
+#define INLINE static inline __attribute__((always_inline))
+
 /* Whether a code is in the set: one of its four words, a shift and a mask. */
 static inline bool plain_has(const twimbor_codes *codes, uint32_t code)
 {
@@ -23,6 +26,8 @@ twimbor_read_result plain_read(twimbor_codes codes, const uint8_t *p, size_t n);
 uint8_t plain_misfit(size_t length);    /* the refusal of a payload that is not 4 bytes; inlined, it slows plain_receive down */
 twimbor_count_result plain_report_count(twimbor_codes codes, twimbor_plan plan);
 uint8_t plain_write_report(twimbor_codes codes, twimbor_plan plan, uint32_t k, uint8_t *output, size_t bytes);
+twimbor_count_result plain_report_count_by_shifts(twimbor_codes codes, twimbor_plan plan);
+uint8_t plain_write_report_by_shifts(twimbor_codes codes, twimbor_plan plan, uint32_t k, uint8_t *output, size_t bytes);
 bool plain_is_valid(const twimbor_table *t);
 
 typedef struct {

@@ -4,7 +4,7 @@ use mathlib.Core.Path.{_≡_, refl, ap, _∙_}
 use mathlib.Core.Bool.{Bool, true, false, not, cond, _&&_, and-true, and-false}
 use mathlib.Core.List.{List, [], _∷_, _++_}
 use native.Mathlib.Omega.{arith}
-use native.Mathlib.Nat.{div-mul-le-self, div-add-mod', le-div-iff-mul-le, div-lt-iff-lt-mul, mod-lt}
+use native.Mathlib.Nat.{div-mul-le-self, div-add-mod', le-div-iff-mul-le, div-lt-iff-lt-mul, mod-lt, mul-le-mul-right}
 use native.Mathlib.Decide.{decLt}
 use lib.Dec.{ltb, eqb, leb·suc-suc, eqb·suc-zero}
 use lib.ListN.{length, getD, length-append, List·getD-append}
@@ -32,7 +32,19 @@ use Rattle.model.specs.Refusals.{noReport}
 use Rattle.model.proofs.Cuts.{whole, after}
 use Rattle.model.proofs.Plans.{reports-of-segment, length-wire, wire-at, length-interim}
 use Rattle.plan.specs.declared.Place.{Place}
-use Rattle.plan.specs.Formula.{interimCount, reportsIn, durationAt, perFull, reportTotal, cutOf, placeOf, unitsAt, endedAt, sayingAt}
+use Rattle.plan.specs.Formula.{
+  interimCount,
+  reportsIn,
+  durationAt,
+  atMost,
+  endedAt,
+  perFull,
+  reportTotal,
+  placeOf,
+  unitsLeft,
+  unitsAt,
+  sayingAt,
+}
 
 -- ONE SEGMENT. Reports, segments and places are counted from 0.
 
@@ -160,55 +172,102 @@ module _ (p : Plan) where
     pub index : at .index < reportsIn (p .period) (unitsAt p (at .segment))
     pub both : at .segment * perFull p + at .index ≡ i
 
-  module _ (some : 1 ≤ p .«segment_size») (steps : 1 ≤ p .period) (i : ℕ) (h : i < reportTotal p) where
+  -- the length in full segments and the rest, and so what is left at the start of each
+  module _ (some : 1 ≤ p .«segment_size») (long : 1 ≤ p .length) where
+    in-all-units : fullSegments p * p .«segment_size» + restUnits p ≡ p .length
+    in-all-units = omega (arith, div-add-mod' (p .length - 1) (p .«segment_size»))
+
+    rest-at-most : restUnits p ≤ p .«segment_size»
+    rest-at-most = omega (arith, mod-lt (p .length - 1) some)
+
+    module _ (j : ℕ) where
+      more-left : j < fullSegments p → p .«segment_size» < unitsLeft p j
+      more-left l = omega (arith, in-all-units, mul-le-mul-right (p .«segment_size») l)
+
+      rest-left : j ≡ fullSegments p → unitsLeft p j ≡ restUnits p
+      rest-left e = omega (arith, in-all-units, ap (λ (n : ℕ). n * p .«segment_size») e)
+
+      pub none-left : fullSegments p < j → unitsLeft p j ≡ 0
+      none-left l = omega (arith, in-all-units, rest-at-most, mul-le-mul-right (p .«segment_size») l)
+
+      module _ (within : j ≤ fullSegments p) where
+        units-as : unitsAt p j ≡ unitsOf (fullSegments p) j
+        unfolding atMost
+        units-as = go (decLt j (fullSegments p)) (decLt (unitsLeft p j) (p .«segment_size»))
+          where
+            go : Dec (j < fullSegments p) → Dec (unitsLeft p j < p .«segment_size»)
+                → cond (ltb (unitsLeft p j) (p .«segment_size»)) (unitsLeft p j) (p .«segment_size») ≡ unitsOf (fullSegments p) j
+            go (yes l) _ = rw (lt-ltb j (fullSegments p) l, le-ltb (unitsLeft p j) (p .«segment_size») (omega (arith, more-left l)))
+            go (no l) (yes m) =
+                rw (le-ltb j (fullSegments p) (omega arith), lt-ltb (unitsLeft p j) (p .«segment_size») m) (rest-left (omega arith))
+            go (no l) (no m) =
+                let e : p .«segment_size» ≡ restUnits p = omega (arith, rest-left (omega arith), rest-at-most) in
+                rw (le-ltb j (fullSegments p) (omega arith), le-ltb (unitsLeft p j) (p .«segment_size») (omega arith)) e
+
+        ends : (i : ℕ) → (not (ltb j (fullSegments p)) && ltb (interimCount (p .period) (unitsOf (fullSegments p) j)) i)
+            ≡ endedAt (p .«segment_size») (p .period) (unitsLeft p j) i
+        unfolding endedAt
+        ends i = go (decLt j (fullSegments p))
+          where
+            go : Dec (j < fullSegments p) → (not (ltb j (fullSegments p)) && ltb (interimCount (p .period) (unitsOf (fullSegments p) j)) i)
+                ≡ (not (ltb (p .«segment_size») (unitsLeft p j)) && ltb (interimCount (p .period) (unitsLeft p j)) i)
+            go (yes l) = rw (lt-ltb j (fullSegments p) l, lt-ltb (p .«segment_size») (unitsLeft p j) (more-left l))
+            go (no l) =
+                let e = rest-left (omega arith) in
+                rw (le-ltb j (fullSegments p) (omega arith), le-ltb (p .«segment_size») (unitsLeft p j) (omega (arith, e, rest-at-most)), e)
+
+    pub last-units : (j : ℕ) → j ≡ fullSegments p → unitsAt p j ≡ restUnits p
+    last-units j e =
+        let l : j ≤ fullSegments p = omega arith in
+        units-as j l ∙ rw (le-ltb j (fullSegments p) (omega arith))
+
+    pub some-left : (j : ℕ) → j ≤ fullSegments p → 1 ≤ unitsLeft p j
+    some-left j l = go (decLt j (fullSegments p))
+      where
+        go : Dec (j < fullSegments p) → 1 ≤ unitsLeft p j
+        go (yes m) = omega (arith, more-left j m)
+        go (no m) = omega (arith, rest-left j (omega arith))
+
+  module _ (some : 1 ≤ p .«segment_size») (long : 1 ≤ p .length) (steps : 1 ≤ p .period) where
     -- the last segment is no longer than a full one, so it has no more reports
     last-steps : interimCount (p .period) (restUnits p) * p .period ≤ p .«segment_size» - 1
     last-steps = omega (arith, div-mul-le-self (restUnits p - 1) (p .period), mod-lt (p .length - 1) some)
 
-    last-at-most : reportsIn (p .period) (restUnits p) ≤ perFull p
+    pub last-at-most : reportsIn (p .period) (restUnits p) ≤ perFull p
     last-at-most = omega (arith, le-div-iff-mul-le steps .1 last-steps)
 
-    pub in-place : InPlace i (placeOf p i)
-    unfolding unitsAt
-    in-place = record { segment = upper; index = go (decLt q n); both = div-add-mod' i (perFull p) }
-      where
-        q : ℕ
-        q = i / perFull p
+    module _ (i : ℕ) (h : i < reportTotal p) where
+      pub in-place : InPlace i (placeOf p i)
+      in-place = record { segment = upper; index = rw (units-as some long q upper) (go (decLt q n)); both = div-add-mod' i (perFull p) }
+        where
+          q : ℕ
+          q = i / perFull p
 
-        n : ℕ
-        n = fullSegments p
+          n : ℕ
+          n = fullSegments p
 
-        upper : q ≤ n
-        upper =
-            let l : q < suc n = div-lt-iff-lt-mul {k = perFull p} {x = i} {y = suc n} (omega arith) .1 (omega (arith, last-at-most)) in
-            omega arith
+          upper : q ≤ n
+          upper =
+              let l : q < suc n = div-lt-iff-lt-mul {k = perFull p} {x = i} {y = suc n} (omega arith) .1 (omega (arith, last-at-most)) in
+              omega arith
 
-        go : Dec (q < n) → i % perFull p < reportsIn (p .period) (unitsOf n q)
-        go (yes l) = rw (lt-ltb q n l) (mod-lt i (omega arith))
-        go (no l) =
-            let e : n ≡ q = omega (arith, upper) in
-            rw (le-ltb q n (omega arith)) (omega (arith, div-add-mod' i (perFull p), ap (λ (k : ℕ). k * perFull p) e))
+          go : Dec (q < n) → i % perFull p < reportsIn (p .period) (unitsOf n q)
+          go (yes l) = rw (lt-ltb q n l) (mod-lt i (omega arith))
+          go (no l) =
+              let e : n ≡ q = omega (arith, upper) in
+              rw (le-ltb q n (omega arith)) (omega (arith, div-add-mod' i (perFull p), ap (λ (k : ℕ). k * perFull p) e))
 
-    -- E is asked of the last segment alone
-    ends : (at : Place) → (not (ltb (at .segment) (fullSegments p)) && ltb (interimCount (p .period) (unitsAt p (at .segment))) (at .index)) ≡ endedAt (cutOf p) at
-    unfolding unitsAt endedAt
-    ends at = go (ltb (at .segment) (fullSegments p))
-      where
-        go : (b : Bool) → (not b && ltb (interimCount (p .period) (cond b (p .«segment_size») (restUnits p))) (at .index))
-            ≡ (not b && ltb (interimCount (p .period) (restUnits p)) (at .index))
-        go true = refl
-        go false = refl
-
-    pub saying-at : (d : Segment) → getD (sayings p) i d ≡ sayingAt p (placeOf p i) i
-    unfolding unitsAt
-    saying-at d =
-        let n = fullSegments p in
-        let at = placeOf p i in
-        let rs = reportsOfAll (p .period) (cutFrom p n 0 true) in
-        let e = in-all n 0 true (at .segment) (at .index) d (in-place .segment) (in-place .index) in
-        let f : 0 + at .segment * p .«segment_size» ≡ at .segment * p .«segment_size» = omega arith in
-        rw (f, ends at) at
-        (mark-at rs i d (ofSegment (p .period) (segmentAt n 0 (at .segment)) (at .index)) (omega (arith, length-all n 0 true)) (rw (in-place .both) at e) refl)
+      pub saying-at : (d : Segment) → getD (sayings p) i d ≡ sayingAt p (placeOf p i) i
+      saying-at d =
+          let n = fullSegments p in
+          let at = placeOf p i in
+          let rs = reportsOfAll (p .period) (cutFrom p n 0 true) in
+          let u = units-as some long (at .segment) (in-place .segment) in
+          let e = in-all n 0 true (at .segment) (at .index) d (in-place .segment) (rw u at (in-place .index)) in
+          let f : 0 + at .segment * p .«segment_size» ≡ at .segment * p .«segment_size» = omega arith in
+          rw (f, ends some long (at .segment) (in-place .segment) (at .index), ← u) at
+          (mark-at rs i d (ofSegment (p .period) (segmentAt n 0 (at .segment)) (at .index))
+          (omega (arith, length-all n 0 true)) (rw (in-place .both) at e) refl)
 
 -- ON THE WIRE
 
@@ -216,11 +275,11 @@ pub length-reports : (p : Plan) → length (reports p) ≡ reportTotal p
 unfolding reports
 length-reports p = length-wire p 0 (sayings p) ∙ length-sayings p
 
-pub report-at : (p : Plan) → 1 ≤ p .«segment_size» → 1 ≤ p .period → (i : ℕ) → i < reportTotal p
+pub report-at : (p : Plan) → 1 ≤ p .«segment_size» → 1 ≤ p .length → 1 ≤ p .period → (i : ℕ) → i < reportTotal p
     → getD (reports p) i noReport ≡ onWire p i (sayingAt p (placeOf p i) i)
 unfolding reports
-report-at p some steps i h =
+report-at p some long steps i h =
     let rs = sayings p in
     let d = segment 0 0 0 0 false false in
     let e : 0 + i ≡ i = omega arith in
-    rw (wire-at p 0 i rs noReport d (omega (arith, length-sayings p)), e, saying-at p some steps i h d)
+    rw (wire-at p 0 i rs noReport d (omega (arith, length-sayings p)), e, saying-at p some long steps i h d)

@@ -1,3 +1,6 @@
 pub mod Laws
-pub mod Ways
+pub mod Ranges
+pub mod Places
+pub mod Counts
+pub mod Reports
 pub mod Output

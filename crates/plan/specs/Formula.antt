@@ -1,13 +1,12 @@
 -- The plan by formula, with no list: how many reports a segment and an event have, and what a report says. Segments,
 -- reports and places are counted from 0. proofs/Laws.antt shows that the formulas give the model's lists.
-use Prim.Native.Nat.{ℕ, _+_, _-_, _*_, _/_, _%_}
-use mathlib.Core.Bool.{Bool, not, cond, _&&_}
+use Prim.Native.Nat.{ℕ, _+_, _-_, _*_, _/_, _%_, _≤_, _<_}
+use mathlib.Core.Path.{_≡_}
+use mathlib.Core.Bool.{Bool, false, not, cond, _&&_}
 use lib.Dec.{ltb, eqb}
 use Rattle.model.specs.declared.Plan.{Plan}
 use Rattle.model.specs.declared.Segment.{Segment}
 use Rattle.model.specs.Plan.{segment, fullSegments, restUnits}
-use Rattle.plan.specs.declared.Counted.{Counted}
-use Rattle.plan.specs.declared.Cut.{Cut}
 use Rattle.plan.specs.declared.Place.{Place}
 
 module _ (period : ℕ) where
@@ -19,25 +18,21 @@ module _ (period : ℕ) where
   abbrev pub reportsIn : ℕ → ℕ
   reportsIn units = interimCount units + 3
 
-  abbrev pub countedBy : ℕ → Counted
-  countedBy units = record { units = units; interim = interimCount units }
+  -- whether a segment has a report i; one of no units has none
+  unfoldable pub hasReport : ℕ → ℕ → Bool
+  hasReport units i = ltb 0 units && ltb i (reportsIn units)
 
   -- the duration that report i of a segment says
   unfoldable pub durationAt : ℕ → ℕ → ℕ
   durationAt units i = cond (ltb i (interimCount units)) ((i + 1) * period) units
 
--- the segment of report i, and the report's place in it, if every segment but the last has so many and none has more
-abbrev pub placeBy : ℕ → ℕ → Place
-placeBy per i = record { segment = i / per; index = i % per }
+-- the units of a segment, if so many are left of the event
+unfoldable pub atMost : ℕ → ℕ → ℕ
+atMost size left = cond (ltb left size) left size
 
-module _ (c : Cut) where
-  -- segment j
-  unfoldable pub segmentOf : ℕ → Counted
-  segmentOf j = cond (ltb j (c .full)) (c .each) (c .last)
-
-  -- E stands on the second and third report at the end of the last segment
-  unfoldable pub endedAt : Place → Bool
-  endedAt at = not (ltb (at .segment) (c .full)) && ltb (c .last .interim) (at .index)
+-- E stands on the second and third report at the end of the last segment: the one after which nothing is left
+unfoldable pub endedAt : ℕ → ℕ → ℕ → ℕ → Bool
+endedAt size period left i = not (ltb size left) && ltb (interimCount period left) i
 
 module _ (p : Plan) where
   -- the reports of a full segment
@@ -47,22 +42,30 @@ module _ (p : Plan) where
   abbrev pub reportTotal : ℕ
   reportTotal = fullSegments p * perFull + reportsIn (p .period) (restUnits p)
 
-  abbrev pub cutOf : Cut
-  cutOf = record {
-    full = fullSegments p;
-    each = countedBy (p .period) (p .«segment_size»);
-    last = countedBy (p .period) (restUnits p);
-    total = reportTotal;
-  }
-
+  -- the segment of report i, and the report's place in it: no segment has more reports than a full one
   abbrev pub placeOf : ℕ → Place
-  placeOf = placeBy perFull
+  placeOf i = record { segment = i / perFull; index = i % perFull }
 
-  -- the units of segment j
-  unfoldable pub unitsAt : ℕ → ℕ
-  unitsAt j = cond (ltb j (fullSegments p)) (p .«segment_size») (restUnits p)
+  -- the units from the start of segment j to the event's end, and its own
+  abbrev pub unitsLeft : ℕ → ℕ
+  unitsLeft j = p .length - j * p .«segment_size»
+
+  abbrev pub unitsAt : ℕ → ℕ
+  unitsAt j = atMost (p .«segment_size») (unitsLeft j)
+
+  -- a place found for report i: its own, or one with no report if the plan has no such one
+  pub record Stands (i : ℕ) (at : Place) : Type 0 where
+    pub few : at .segment ≤ 16
+    pub its-own : i < reportTotal → at ≡ placeOf i
+    pub or-none : reportTotal ≤ i → hasReport (p .period) (unitsAt (at .segment)) (at .index) ≡ false
 
   -- what report i says, if it stands at this place
   abbrev pub sayingAt : Place → ℕ → Segment
   sayingAt at i =
-      segment (at .segment * p .«segment_size») (p .code) (durationAt (p .period) (unitsAt (at .segment)) (at .index)) (p .volume) (endedAt cutOf at) (eqb i 0)
+      segment
+      (at .segment * p .«segment_size»)
+      (p .code)
+      (durationAt (p .period) (unitsAt (at .segment)) (at .index))
+      (p .volume)
+      (endedAt (p .«segment_size») (p .period) (unitsLeft (at .segment)) (at .index))
+      (eqb i 0)

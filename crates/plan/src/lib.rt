@@ -5,7 +5,7 @@ ghost use mathlib.Core.Bool.{true};
 ghost use lib.ListN.{length};
 ghost use Rattle.model.specs.Refusals.{toldCount, toldWrite};
 ghost use Rattle.model.specs.Plan.{lengthsInRange, planInRange, reportCount, reports, reportAt, writeReport};
-ghost use Rattle.plan.specs.Formula.{countedBy, cutOf, placeBy, segmentOf, durationAt, endedAt};
+ghost use Rattle.plan.specs.Formula.{interimCount, reportTotal, placeOf, Stands, unitsLeft, atMost, hasReport, durationAt, endedAt};
 use codes::contains;
 use division::divide;
 use model::Codes;
@@ -13,20 +13,6 @@ use model::CountAnswer;
 use model::Plan;
 use model::Report;
 use model::WriteAnswer;
-
-// A segment in numbers: its units, and how many of its reports come before its end.
-struct Counted {
-    units: u32,
-    interim: u32,
-}
-
-// The event in numbers: how many full segments come before the last, what a full one and the last are, and all reports.
-struct Cut {
-    full: u32,
-    each: Counted,
-    last: Counted,
-    total: u32,
-}
 
 // Where a report stands: its segment, and its place among that segment's reports. Both count from 0.
 struct Place {
@@ -72,35 +58,33 @@ fn in_range(codes: Codes, p: Plan) -> bool
     lengths_in_range(p)
 }
 
-// A segment of so many units has an interim report at each multiple of the period below its length.
-fn count_reports(units: u32, period: u32) -> Counted
+// The reports of a segment before its end: one at each multiple of the period below its length. Mostly they are few, and half the
+// steps find them.
+fn interim_count(units: u32, period: u32) -> u32
     requires { ⌜ 1 ≤ units ⌝ }
     requires { ⌜ units ≤ 65535 ⌝ }
     requires { ⌜ 1 ≤ period ⌝ }
     requires { ⌜ period ≤ 65535 ⌝ }
-    ensures { λ r. ⌜ r ≡ countedBy period units ⌝ }
+    ensures { λ r. ⌜ r ≡ interimCount period units ⌝ }
 {
-    Counted {
-        units: units,
-        interim: divide(units - 1, period, 16).quotient,
+    if units <= period * 256 {
+        return divide(units - 1, period, 8).quotient;
     }
+    divide(units - 1, period, 16).quotient
 }
 
-// What the plan's divisions tell, each made once. The last segment holds at least one unit, so a length of one size has no full one
-// before it; three reports more stand at each segment's end.
-fn cut_of(p: Plan) -> Cut
+// The plan's reports: those of each full segment, and of the last, which holds at least one unit. Each has three at its end.
+fn total(p: Plan) -> u32
     requires { ⌜ lengthsInRange p ≡ true ⌝ }
-    ensures { λ r. ⌜ r ≡ cutOf p ⌝ }
+    ensures { λ r. ⌜ r ≡ length (reports p) ⌝ }
 {
-    let segments = divide(p.length - 1, p.segment_size, 4);
-    let each = count_reports(p.segment_size, p.period);
-    let last = count_reports(segments.remainder + 1, p.period);
-    Cut {
-        full: segments.quotient,
-        each: each,
-        last: last,
-        total: segments.quotient * (each.interim + 3) + (last.interim + 3),
+    if p.length <= p.segment_size {
+        return interim_count(p.length, p.period) + 3;
     }
+    let segments = divide(p.length - 1, p.segment_size, 4);
+    let in_full = interim_count(p.segment_size, p.period) + 3;
+    let in_last = interim_count(segments.remainder + 1, p.period) + 3;
+    segments.quotient * in_full + in_last
 }
 
 // How many reports the plan has, or 12, also for a code outside the set.
@@ -110,52 +94,104 @@ pub fn report_count(codes: Codes, p: Plan) -> CountAnswer
     if !in_range(codes, p) {
         return CountAnswer::Refused(model::OUT_OF_RANGE);
     }
-    CountAnswer::Reports(cut_of(p).total)
+    CountAnswer::Reports(total(p))
 }
 
-// Where report i stands, from 0, if each segment but the last has so many reports: the last has no more, so one division tells.
-fn place_of(per: u32, i: u32) -> Place
-    requires { ⌜ i < per * 16 ⌝ }
-    requires { ⌜ per ≤ 65537 ⌝ }
-    ensures { λ r. ⌜ r ≡ placeBy per i ⌝ }
+// Whether a segment has a report at this place: three stand at its end, after those at the multiples of the period below it.
+fn has_report(units: u32, period: u32, index: u32) -> bool
+    requires { ⌜ units ≤ 65535 ⌝ }
+    requires { ⌜ 1 ≤ period ⌝ }
+    requires { ⌜ period ≤ 65535 ⌝ }
+    ensures { λ r. ⌜ r ≡ hasReport period units index ⌝ }
 {
-    let at = divide(i, per, 4);
+    if units == 0 {
+        return false;
+    }
+    if index < 3 {
+        return true;
+    }
+    if 65536 < index {
+        return false;
+    }
+    (index - 2) * period < units
+}
+
+// Where report i stands, from 0, or a place where there is none. No segment has more reports than a full one, so a division by their
+// number tells; in an event of one segment there is nothing to divide.
+fn place_of(p: Plan, i: u32) -> Place
+    requires { ⌜ lengthsInRange p ≡ true ⌝ }
+    ensures { λ r. ⌜ Stands p i r ⌝ }
+{
+    if p.length <= p.segment_size {
+        return Place {
+            segment: 0,
+            index: i,
+        };
+    }
+    let in_full = interim_count(p.segment_size, p.period) + 3;
+    if in_full * 16 <= i {
+        return Place {
+            segment: 16,
+            index: 0,
+        };
+    }
+    let at = divide(i, in_full, 4);
     Place {
         segment: at.quotient,
         index: at.remainder,
     }
 }
 
-// A segment by its number: every one but the last is full.
-fn segment_at(c: Cut, j: u32) -> Counted
-    ensures { λ r. ⌜ r ≡ segmentOf c j ⌝ }
+// The units from a segment's start to the event's end: 0 past it.
+fn units_left(p: Plan, segment: u32) -> u32
+    requires { ⌜ lengthsInRange p ≡ true ⌝ }
+    requires { ⌜ segment ≤ 16 ⌝ }
+    ensures { λ r. ⌜ r ≡ unitsLeft p segment ⌝ }
 {
-    if j < c.full {
-        return c.each;
+    let before = segment * p.segment_size;
+    if p.length <= before {
+        return 0;
     }
-    c.last
+    p.length - before
+}
+
+// The units of a segment: all that is left, at most the size.
+fn units_of(left: u32, size: u32) -> u32
+    ensures { λ r. ⌜ r ≡ atMost size left ⌝ }
+{
+    if left < size {
+        return left;
+    }
+    size
 }
 
 // The duration a report says: the next multiple of the period, or at the end the segment's length.
-fn duration_at(g: Counted, period: u32, index: u32) -> u32
-    requires { ⌜ g ≡ countedBy period (g .units) ⌝ }
+fn duration_at(units: u32, period: u32, index: u32) -> u32
+    requires { ⌜ 1 ≤ units ⌝ }
     requires { ⌜ 1 ≤ period ⌝ }
-    ensures { λ r. ⌜ r ≡ durationAt period (g .units) index ⌝ }
+    requires { ⌜ period ≤ 65535 ⌝ }
+    requires { ⌜ index ≤ 65536 ⌝ }
+    ensures { λ r. ⌜ r ≡ durationAt period units index ⌝ }
 {
-    if index < g.interim {
-        return (index + 1) * period;
+    let next = (index + 1) * period;
+    if next < units {
+        return next;
     }
-    g.units
+    units
 }
 
-// E: on the last two reports of the last segment.
-fn ended_at(c: Cut, at: Place) -> bool
-    ensures { λ r. ⌜ r ≡ endedAt c at ⌝ }
+// E: on the last two reports of the last segment, which is the one that nothing is left after.
+fn ended_at(left: u32, size: u32, period: u32, index: u32) -> bool
+    requires { ⌜ 1 ≤ left ⌝ }
+    requires { ⌜ 1 ≤ period ⌝ }
+    requires { ⌜ period ≤ 65535 ⌝ }
+    requires { ⌜ index ≤ 65536 ⌝ }
+    ensures { λ r. ⌜ r ≡ endedAt size period left index ⌝ }
 {
-    if at.segment < c.full {
+    if size < left {
         return false;
     }
-    c.last.interim < at.index
+    left <= index * period
 }
 
 // The sequence number after so many reports, modulo 65,536.
@@ -172,16 +208,15 @@ fn timestamp_at(start: u32, offset: u32) -> u32
     ((start as u64 + offset as u64) & 0xffff_ffff) as u32
 }
 
-// Report k of the plan, from 1: all of it follows from where the report stands.
-fn planned(p: Plan, c: Cut, k: u32) -> Report
+// Report i of the plan, from 0: all of it follows from where the report stands.
+fn planned(p: Plan, i: u32, at: Place, left: u32) -> Report
     requires { ⌜ lengthsInRange p ≡ true ⌝ }
-    requires { ⌜ c ≡ cutOf p ⌝ }
-    requires { ⌜ 1 ≤ k ⌝ }
-    requires { ⌜ k ≤ length (reports p) ⌝ }
-    ensures { λ r. ⌜ r ≡ reportAt p k ⌝ }
+    requires { ⌜ i < reportTotal p ⌝ }
+    requires { ⌜ at ≡ placeOf p i ⌝ }
+    requires { ⌜ left ≡ unitsLeft p (at .segment) ⌝ }
+    ensures { λ r. ⌜ r ≡ reportAt p (i + 1) ⌝ }
 {
-    let i = k - 1;
-    let at = place_of(c.each.interim + 3, i);
+    let units = units_of(left, p.segment_size);
     Report {
         marker: i == 0,
         payload_type: p.payload_type,
@@ -189,9 +224,9 @@ fn planned(p: Plan, c: Cut, k: u32) -> Report
         timestamp: timestamp_at(p.start, at.segment * p.segment_size),
         ssrc: p.ssrc,
         code: p.code,
-        ended: ended_at(c, at),
+        ended: ended_at(left, p.segment_size, p.period, at.index),
         volume: p.volume,
-        duration: duration_at(segment_at(c, at.segment), p.period, at.index),
+        duration: duration_at(units, p.period, at.index),
     }
 }
 
@@ -206,10 +241,12 @@ pub fn write_report(codes: Codes, p: Plan, k: u32, out: &mut [u8]) -> WriteAnswe
     if k == 0 {
         return WriteAnswer::Refused(model::NO_SUCH_NUMBER);
     }
-    let c = cut_of(p);
-    if c.total < k {
+    let i = k - 1;
+    let at = place_of(p, i);
+    let left = units_left(p, at.segment);
+    if !has_report(units_of(left, p.segment_size), p.period, at.index) {
         return WriteAnswer::Refused(model::NO_SUCH_NUMBER);
     }
-    let r = planned(p, c, k);
+    let r = planned(p, i, at, left);
     writer::write(codes, r, out)
 }

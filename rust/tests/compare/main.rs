@@ -1,6 +1,7 @@
 //! The library compared with documents 01 and 02, written again from their text alone (`paper`), on
-//! random inputs, in `probes` on every place of every number held, and in `codes` on every pair of
-//! codes: each answer, table field, place, and lent byte, record and entry, also under a refusal.
+//! random inputs, in `plan_borders` on the borders of a plan's quotients, in `probes` on every
+//! place of every number held, and in `codes` on every pair of codes: each answer, table field,
+//! place, and lent byte, record and entry, also under a refusal.
 
 mod blocks;
 mod both;
@@ -11,6 +12,7 @@ mod make;
 mod order;
 mod packets;
 mod paper;
+mod plan_borders;
 mod plans;
 mod probes;
 mod random;
@@ -23,6 +25,7 @@ mod tally;
 const _: () = assert!(
     packets::INPUTS
         + plans::INPUTS
+        + plan_borders::INPUTS
         + tables::INPUTS
         + lists::INPUTS
         + blocks::INPUTS

@@ -1,14 +1,14 @@
--- Before the end the next multiple of the period, which is below the segment's length and so fits; then the length.
-use Rattle.plan.proofs.Ways.{planning}
+-- A multiple of the period below the units is one of the interim reports; from the first that is not on, the units.
+use Rattle.plan.proofs.Reports.{planning}
 use borrow.Author.Needs.{needs}
 use Rattle.plan.proofs.duration_at.Statement.{statement}
 use Rattle.plan.proofs.duration_at.Tie as tie
 
-add-result : tie.Need-add-result
-add-result c = search needs
+add-next : tie.Need-add-next
+add-next c = search needs
 
-mul-result : tie.Need-mul-result
-mul-result c = search planning
+mul-next : tie.Need-mul-next
+mul-next c = search planning
 
 returns : tie.Need-returns
 returns c = search planning
@@ -17,4 +17,4 @@ returns-2 : tie.Need-returns-2
 returns-2 c = search planning
 
 pub duration-at-spec : {M : Type 1} → statement M
-duration-at-spec = tie.close (tie.spec add-result mul-result returns returns-2)
+duration-at-spec = tie.close (tie.spec add-next mul-next returns returns-2)

@@ -13,8 +13,20 @@ returns c = search writing-reports
 returns-2 : tie.Need-returns-2
 returns-2 c = search writing-reports
 
-cut-of-requires : tie.Need-cut-of-requires
-cut-of-requires c κs = search writing-reports
+sub-i : tie.Need-sub-i
+sub-i c = search needs
+
+place-of-requires : tie.Need-place-of-requires
+place-of-requires c κs = search writing-reports
+
+units-left-requires : tie.Need-units-left-requires
+units-left-requires c κs = search writing-reports
+
+units-of-requires : tie.Need-units-of-requires
+units-of-requires c κs = search needs
+
+has-report-requires : tie.Need-has-report-requires
+has-report-requires c κs = search writing-reports
 
 returns-3 : tie.Need-returns-3
 returns-3 c = search writing-reports
@@ -38,7 +50,11 @@ write-report-spec =
     in-range-requires
     returns
     returns-2
-    cut-of-requires
+    sub-i
+    place-of-requires
+    units-left-requires
+    units-of-requires
+    has-report-requires
     returns-3
     planned-requires
     write-requires

@@ -8,5 +8,6 @@ pub mod codes;
 pub mod events;
 pub mod packet;
 pub mod plan;
+pub mod plan_by_division;
 pub mod redundant;
 pub mod table;

@@ -4,8 +4,8 @@ use super::codes::Codes;
 use super::packet;
 use twimbor::{Plan, Report};
 
-/// All reports of a plan, in order.
-pub fn reports(codes: &Codes, plan: &Plan) -> Result<Vec<Report>, u8> {
+/// Refusal 12: a number is outside its range.
+pub fn in_range(codes: &Codes, plan: &Plan) -> Result<(), u8> {
     if plan.payload_type > 127
         || !codes.contains(plan.code)
         || plan.volume > 63
@@ -15,6 +15,27 @@ pub fn reports(codes: &Codes, plan: &Plan) -> Result<Vec<Report>, u8> {
     {
         return Err(12);
     }
+    Ok(())
+}
+
+/// The report after so many others, of a segment that starts so many units after the event.
+pub fn report(plan: &Plan, earlier: usize, before: u32, duration: u32, ended: bool) -> Report {
+    Report {
+        marker: earlier == 0,
+        payload_type: plan.payload_type,
+        sequence: ((u64::from(plan.sequence) + earlier as u64) % 65_536) as u16,
+        timestamp: ((u64::from(plan.start) + u64::from(before)) % (1 << 32)) as u32,
+        ssrc: plan.ssrc,
+        code: plan.code,
+        ended,
+        volume: plan.volume,
+        duration,
+    }
+}
+
+/// All reports of a plan, in order.
+pub fn reports(codes: &Codes, plan: &Plan) -> Result<Vec<Report>, u8> {
+    in_range(codes, plan)?;
     let mut reports = Vec::new();
     let mut before = 0;
     while before < plan.length {
@@ -24,17 +45,7 @@ pub fn reports(codes: &Codes, plan: &Plan) -> Result<Vec<Report>, u8> {
         let interim = multiples.take_while(|&duration| duration < units).map(|d| (d, false));
         let at_end = [(units, false), (units, is_last), (units, is_last)];
         for (duration, ended) in interim.chain(at_end) {
-            reports.push(Report {
-                marker: reports.is_empty(),
-                payload_type: plan.payload_type,
-                sequence: ((u64::from(plan.sequence) + reports.len() as u64) % 65_536) as u16,
-                timestamp: ((u64::from(plan.start) + u64::from(before)) % (1 << 32)) as u32,
-                ssrc: plan.ssrc,
-                code: plan.code,
-                ended,
-                volume: plan.volume,
-                duration,
-            });
+            reports.push(report(plan, reports.len(), before, duration, ended));
         }
         before += units;
     }
