@@ -6,7 +6,7 @@
 #include <stdlib.h>
 #include <string.h>
 
-/* Many plans, so that a processor does not learn the branches of each. */
+/* Many plans; a processor still learns some of their branches, and of four times as many none. */
 enum { PLANS = 4096, TURNS = 6, ROUNDS = 600, CHECKS = 2000000 };
 enum { OURS, PLAIN, BY_SHIFTS, WAYS };
 static twimbor_plan plans[PLANS];
@@ -38,7 +38,17 @@ static twimbor_plan any_plan(void)
     return (twimbor_plan){101, 7, (uint16_t)below(65536), start, PICK(members), below(64), PICK(lengths), PICK(periods), size};
 }
 
-/* The same with one number somewhat off, so that most are refused, or with a small period, so that the quotients are large. */
+/* A key pressed for up to two seconds, as most are. */
+static twimbor_plan a_press(void)
+{
+    twimbor_plan p = any_plan();
+    p.segment_size = 65535;
+    p.period = 400;
+    p.length = 1 + below(16000);
+    return p;
+}
+
+/* Any with one number somewhat off, so that most are refused, or with a small period, so that the quotients are large. */
 static twimbor_plan other_plan(void)
 {
     twimbor_plan p = any_plan();
@@ -115,17 +125,17 @@ static double round_of_write(write_call *write, uint64_t *sum)
     return (now() - start) / ((double)TURNS * PLANS);
 }
 
-static void print(const char *call, const double *ns)
+static void print(const char *plan, const char *call, const double *ns)
 {
-    printf("plan, %s: %.2f ns, plain C %.2f ns, ratio %.2f, plain C by shifts %.2f ns, ratio %.2f\n", call, ns[OURS],
-           ns[PLAIN], ns[OURS] / ns[PLAIN], ns[BY_SHIFTS], ns[OURS] / ns[BY_SHIFTS]);
+    printf("%s, %s: %.2f ns, plain C %.2f ns, ratio %.2f, plain C by shifts %.2f ns, ratio %.2f\n", plan, call, ns[OURS], ns[PLAIN],
+           ns[OURS] / ns[PLAIN], ns[BY_SHIFTS], ns[OURS] / ns[BY_SHIFTS]);
 }
 
-int main(void)
+/* Times the calls on plans of a kind, with any of their reports. */
+static void measure(const char *kind, twimbor_plan (*plan)(void))
 {
-    for (int i = 0; i < CHECKS; i++) compare(i % 2 ? any_plan() : other_plan());
     for (int i = 0; i < PLANS; i++) {
-        plans[i] = any_plan();
+        plans[i] = plan();
         numbers[i] = 1 + below(twimbor_report_count(codes, plans[i]).reports);
     }
     uint64_t sums[WAYS] = {0};
@@ -138,8 +148,15 @@ int main(void)
         least(&writes[PLAIN], round_of_write(plain_write_report, &sums[PLAIN]));
         least(&writes[BY_SHIFTS], round_of_write(plain_write_report_by_shifts, &sums[BY_SHIFTS]));
     }
-    if (sums[PLAIN] != sums[OURS] || sums[BY_SHIFTS] != sums[OURS]) { printf("the plans differ\n"); return 1; }
-    print("report count", counts);
-    print("write report", writes);
+    if (sums[PLAIN] != sums[OURS] || sums[BY_SHIFTS] != sums[OURS]) { printf("the plans differ\n"); exit(1); }
+    print(kind, "report count", counts);
+    print(kind, "write report", writes);
+}
+
+int main(void)
+{
+    for (int i = 0; i < CHECKS; i++) compare(i % 2 ? any_plan() : other_plan());
+    measure("plan", any_plan);
+    measure("plan of one segment", a_press);
     return 0;
 }
