@@ -20,7 +20,7 @@ static twimbor_table filled(uint32_t held)
 {
     twimbor_table t;
     if (twimbor_open_redundant(&t, TWIMBOR_KEYS, 101, 102, 7, 1000) != 0) exit(1);
-    for (uint32_t i = 0; i < held; i++) twimbor_set_segment(&t, i, (twimbor_segment){700 * i, 5, 1, 63, false, false});
+    for (uint32_t i = 0; i < held; i++) twimbor_set_segment(&t, i, (twimbor_segment){700 * i, 5, 1, 31, 31, false, false});
     t.head.count = held;
     for (uint32_t i = 0; i < PACKETS; i++) {
         uint32_t at = i % held, back = at < 2 ? at : 2;
@@ -75,8 +75,9 @@ static void many(size_t n)
     static uint8_t packet[65536 + 16];
     static uint32_t lent[16384];
     size_t bytes = make_packet(packet, n), turns = n < 1000 ? 20000 / n : 4;
-    twimbor_table t;
+    twimbor_table t, plain_table;
     if (twimbor_open_redundant(&t, TWIMBOR_KEYS, 101, 102, 7, 1000) != 0) exit(1);
+    plain_table = t;
     double receive = 1e18, plain = 1e18, walk = 1e18, plain_steps = 1e18;
     for (int round = 0; round < ROUNDS / 4; round++) {
         size_t blocks = 0, found = 0;
@@ -84,7 +85,7 @@ static void many(size_t n)
         for (size_t turn = 0; turn < turns; turn++) blocks += twimbor_receive_redundant(&t, packet, bytes, lent, 16384).blocks;
         least(&receive, (now() - start) / (turns * n));
         start = now();
-        for (size_t turn = 0; turn < turns; turn++) blocks += plain_receive_redundant(&t, packet, bytes, lent, 16384).blocks;
+        for (size_t turn = 0; turn < turns; turn++) blocks += plain_receive_redundant(&plain_table, packet, bytes, lent, 16384).blocks;
         least(&plain, (now() - start) / (turns * n));
         if (blocks != 2 * turns * (n / 2 + 1)) exit(1);
         start = now();
@@ -105,6 +106,7 @@ static void many(size_t n)
         least(&plain_steps, (now() - start) / (turns * n));
         if (found != 2 * turns * n) exit(1);
     }
+    if (memcmp(&t, &plain_table, sizeof t) != 0) exit(1);
     printf("%5zu blocks, half of them the event's: receive %4.1f ns a block, plain C %4.1f ns, ratio %.2f; walk %4.1f ns, plain C %4.1f ns, ratio %.2f\n",
         n, receive, plain, receive / plain, walk, plain_steps, walk / plain_steps);
 }

@@ -19,25 +19,60 @@ static void same_answer(const twimbor_table *t, const uint8_t *packet, size_t by
     twimbor_received ours = twimbor_receive(&copies[0], packet, bytes);
     plain_answer plain[] = {plain_receive(&copies[1], packet, bytes), plain_receive_valid(&copies[2], packet, bytes)};
     for (int i = 0; i < 2; i++)
-        if (plain[i].refusal != ours.refusal || plain[i].is_new != ours.is_new || plain[i].probes != ours.probes) exit(1);
+        if (plain[i].refusal != ours.refusal || plain[i].is_new != ours.is_new || plain[i].probes != ours.probes
+            || memcmp(&copies[0], &copies[i + 1], sizeof copies[0]) != 0) exit(1);
 }
 
-/* Plain C counts the segments looked at as ours does: with each number held a report before each segment, at each and after all, and
- * a packet that is refused before the search. */
+/* Plain C counts the segments looked at as ours does, and leaves the same table: with each number held a report before each segment, at
+ * each and after all, and a packet that is refused before the search. */
 static void same_probes(void)
 {
     twimbor_table t;
     if (twimbor_open(&t, TWIMBOR_KEYS, 101, 7, 1000) != 0) exit(1);
     for (uint32_t held = 0;; held++) {
         for (uint32_t offset = 0; offset <= 2 * held; offset++) {
-            twimbor_report r = {false, 101, 0, 1000 + offset, 7, 5, false, 0, 1};
+            twimbor_report r = {false, 101, 0, 1000 + offset, 7, 5, false, offset % 64, 1};
             if (twimbor_write(TWIMBOR_KEYS, r, packets, 16) != 0) exit(1);
             same_answer(&t, packets, 16);
             same_answer(&t, packets, 15);
         }
         if (held == 128) return;
-        twimbor_set_segment(&t, held, (twimbor_segment){2 * held + 1, 5, 1, 0, false, false});
+        twimbor_set_segment(&t, held, (twimbor_segment){2 * held + 1, 5, 1, 20, 30, false, false});
         t.head.count++;
+    }
+}
+
+static void same_test(const twimbor_table *t)
+{
+    if (plain_is_valid(t) != twimbor_is_valid(t)) exit(1);
+}
+
+/* Plain C fails the same tables as ours: with each number held, in each place, all volumes and quietest with durations at their ends, and
+ * keys next to the neighbours' and at the ends of their range. */
+static void same_tests(int held)
+{
+    static const uint32_t others[] = {0, 1, 3 << 16, 3 << 16 | 65535};
+    static const uint64_t keys[] = {0, 15, 16, 255, ((uint64_t)1 << 39) - 241, (uint64_t)1 << 39, (uint64_t)1 << 63, UINT64_MAX};
+    twimbor_table t;
+    if (twimbor_open(&t, TWIMBOR_KEYS, 101, 7, 1000) != 0) exit(1);
+    t.head.count = (size_t)held;
+    for (int i = 0; i < held; i++) twimbor_set_segment(&t, i, (twimbor_segment){(uint32_t)i + 1, 5, 1, 20, 30, false, false});
+    if (!twimbor_is_valid(&t)) exit(1);
+    for (int i = 0; i < held; i++) {
+        uint32_t heard = t.heard[i];
+        uint64_t key = t.keys[i];
+        for (int j = 0; j < 4; j++)
+            for (uint32_t volumes = 0; volumes < 1 << 14; volumes++) {
+                t.heard[i] = volumes << 18 | others[j];
+                same_test(&t);
+            }
+        t.heard[i] = heard;
+        for (t.keys[i] = key - 258; t.keys[i] <= key + 258; t.keys[i]++) same_test(&t);
+        for (int j = 0; j < 8; j++) {
+            t.keys[i] = keys[j];
+            same_test(&t);
+        }
+        t.keys[i] = key;
     }
 }
 
@@ -94,7 +129,8 @@ static void receiving(int held, double limit)
 
 static bool same_event(twimbor_event a, twimbor_event b)
 {
-    return a.code == b.code && a.start == b.start && a.length == b.length && a.volume == b.volume && a.began == b.began && a.ended == b.ended;
+    return a.code == b.code && a.start == b.start && a.length == b.length && a.volume == b.volume && a.quietest == b.quietest
+        && a.began == b.began && a.ended == b.ended;
 }
 
 /* Each segment an event of its own; unmarked ones are looked up for what they continue. */
@@ -126,6 +162,8 @@ int main(void)
     static const int held[] = {1, 4, 16, 64, 128}, events[] = {1, 16, 64, 128};
     static const double limits[] = {2.0, 1.6, 1.2, 1.0, 1.0};
     same_probes();
+    for (int n = 1; n <= 9; n++) same_tests(n);
+    same_tests(128);
     for (int i = 0; i < 5; i++) receiving(held[i], limits[i]);
     for (int i = 0; i < 4; i++) listing(events[i], true);
     for (int i = 0; i < 4; i++) listing(events[i], false);

@@ -28,7 +28,7 @@ static twimbor_table holding(size_t n, bool marked, int codes)
     if (twimbor_open(&t, ALL, 101, 7, 0) != 0) exit(1);
     for (size_t i = 0; i < n; i++) {
         t.head.count = i + 1;
-        twimbor_set_segment(&t, i, (twimbor_segment){1000 * ((uint32_t)i + 1), (uint8_t)(i % codes), 400, 10, false, marked});
+        twimbor_set_segment(&t, i, (twimbor_segment){1000 * ((uint32_t)i + 1), (uint8_t)(i % codes), 400, 10, 10, false, marked});
     }
     if (!twimbor_is_valid(&t)) exit(1);
     return t;

@@ -24,8 +24,8 @@
 #include <stdint.h>
 
 #define TWIMBOR_VERSION_MAJOR 0
-#define TWIMBOR_VERSION_MINOR 10
-#define TWIMBOR_VERSION_PATCH 1
+#define TWIMBOR_VERSION_MINOR 11
+#define TWIMBOR_VERSION_PATCH 0
 #define TWIMBOR_VERSION \
     TWIMBOR_DIGITS(TWIMBOR_VERSION_MAJOR) "." TWIMBOR_DIGITS(TWIMBOR_VERSION_MINOR) "." TWIMBOR_DIGITS(TWIMBOR_VERSION_PATCH)
 #define TWIMBOR_DIGITS(number) TWIMBOR_QUOTED(number)
@@ -331,10 +331,10 @@ typedef struct {
 /* The receiving table. The first `count` places of its two columns hold segments, by offset, then code; what stands in the
  * others plays no part. A segment is kept in two numbers, its key and what was heard of it:
  *
- *      63                          8 7        0         31           18 17 16 15             0
- *     +-----------------------------+----------+       +---------------+--+--+----------------+
- *     |           offset            |   code   |       |    volume     |M |E |    duration    |
- *     +-----------------------------+----------+       +---------------+--+--+----------------+
+ *      63                          8 7        0       31        24 23      18 17 16 15             0
+ *     +-----------------------------+----------+     +------------+----------+--+--+----------------+
+ *     |           offset            |   code   |     |   volume   | quietest |M |E |    duration    |
+ *     +-----------------------------+----------+     +------------+----------+--+--+----------------+
  *
  * A table may be stored field by field, or whole for the same header on the same kind of machine; twimbor_is_valid tests one that
  * was read back. What stands between its fields may be anything, so tables are not to be compared or hashed as bytes (memcmp). */
@@ -350,6 +350,7 @@ typedef struct {
     uint8_t code;                   /* one of the table's set */
     uint16_t duration;              /* the largest heard; 1 to 65535 timestamp units */
     uint8_t volume;                 /* the smallest number heard, the loudest; 0 to 63 */
+    uint8_t quietest;               /* the largest number heard; from `volume` to 63 */
     bool ended;                     /* E was heard */
     bool marked;                    /* M was heard */
 } twimbor_segment;
@@ -382,6 +383,7 @@ typedef struct {
     uint32_t start;                 /* an offset */
     uint32_t length;                /* the sum of its segments' durations, in timestamp units */
     uint8_t volume;                 /* the smallest number of its segments, the loudest */
+    uint8_t quietest;               /* the largest number of its segments */
     bool began;                     /* its first segment was marked */
     bool ended;                     /* its last segment has E */
 } twimbor_event;
@@ -444,17 +446,17 @@ TWIMBOR_MUST_CHECK static inline uint8_t twimbor_open_redundant(twimbor_table *t
 }
 
 /* Whether a table passes the tests of refusal 16: at most 128 segments held; these strictly rising by offset, then code; offsets
- * below 2^31; codes of the table's set, which may be empty if nothing is held; durations 1 to 65535; volumes 0 to 63; a payload type up
- * to 127; and in a table opened for both types the other one up to 127 too, and another. A table that was opened always does, whatever
- * it received. */
+ * below 2^31; codes of the table's set, which may be empty if nothing is held; durations 1 to 65535; volumes 0 to 63, the quietest not
+ * below the loudest; a payload type up to 127; and in a table opened for both types the other one up to 127 too, and another. A table
+ * that was opened always does, whatever it received. */
 TWIMBOR_MUST_CHECK static inline bool twimbor_is_valid(const twimbor_table *table)
 {
     return twimbor_is_valid_columns(table->head, table->keys, table->heard);
 }
 
 /* Receives a packet, and takes its report into the table: the pair of offset and code keeps the largest duration, the smallest
- * volume number, whether E and whether M was heard. The sequence number plays no part. `is_new` tells whether the pair was not
- * held before. A new segment moves those after it up by one place; the places above them stay.
+ * and the largest volume number, whether E and whether M was heard. The sequence number plays no part. `is_new` tells whether the pair
+ * was not held before. A new segment moves those after it up by one place; the places above them stay.
  *
  * The pair is looked up by halving: of the range of segments held, at first all of them, the middle one is looked at, rounded
  * down; what is right of it is kept if it is smaller than the pair, else what is left of it, until nothing is left. `probes`
@@ -547,32 +549,33 @@ TWIMBOR_MUST_CHECK static inline twimbor_listed twimbor_list(const twimbor_table
 }
 
 /* The segment at place i, counted from 0, of a table that passes the tests; all zeros if the table holds none there. In a table
- * that fails them, an offset or a volume too large for its field reads as the largest number of the field, which is outside
- * the range too. */
+ * that fails them, an offset too large for its field reads as the largest number of the field, which is outside the range too. */
 static inline twimbor_segment twimbor_segment_at(const twimbor_table *table, size_t i)
 {
-    twimbor_segment segment = {0, 0, 0, 0, false, false};
+    twimbor_segment segment = {0, 0, 0, 0, 0, false, false};
     if (i < table->head.count && i < TWIMBOR_PLACES) {
         uint64_t key = table->keys[i];
         uint32_t heard = table->heard[i];
         segment.offset = key >> 40 ? UINT32_MAX : (uint32_t)(key >> 8);
         segment.code = (uint8_t)key;
         segment.duration = (uint16_t)heard;
-        segment.volume = heard >> 26 ? UINT8_MAX : (uint8_t)(heard >> 18);
+        segment.volume = (uint8_t)(heard >> 24);
+        segment.quietest = heard >> 18 & 63;
         segment.ended = heard >> 16 & 1;
         segment.marked = heard >> 17 & 1;
     }
     return segment;
 }
 
-/* Puts a segment at place i, counted from 0; nothing changes if i is above 127. A table of given segments is opened, gets them in
- * their order, and then their number in `head.count`. Whether it passes the tests, twimbor_is_valid tells. */
+/* Puts a segment at place i, counted from 0; nothing changes if i is above 127. A quietest above 63 has no room: the volume is then put as
+ * 255, which is outside the range too. A table of given segments is opened, gets them in their order, and then their number in `head.count`.
+ * Whether it passes the tests, twimbor_is_valid tells. */
 static inline void twimbor_set_segment(twimbor_table *table, size_t i, twimbor_segment segment)
 {
     if (i < TWIMBOR_PLACES) {
+        uint32_t quietest = segment.quietest & 63, volume = segment.quietest > 63 ? 255 : segment.volume;
         table->keys[i] = (uint64_t)segment.offset << 8 | segment.code;
-        table->heard[i] = segment.duration | (uint32_t)segment.ended << 16 | (uint32_t)segment.marked << 17
-            | (uint32_t)segment.volume << 18;
+        table->heard[i] = segment.duration | (uint32_t)segment.ended << 16 | (uint32_t)segment.marked << 17 | quietest << 18 | volume << 24;
     }
 }
 

@@ -24,14 +24,14 @@ static bool same_report(twimbor_report a, twimbor_report b)
 
 static bool same_segment(twimbor_segment a, twimbor_segment b)
 {
-    return a.offset == b.offset && a.code == b.code && a.duration == b.duration && a.volume == b.volume && a.ended == b.ended
-        && a.marked == b.marked;
+    return a.offset == b.offset && a.code == b.code && a.duration == b.duration && a.volume == b.volume && a.quietest == b.quietest
+        && a.ended == b.ended && a.marked == b.marked;
 }
 
 static bool same_event(twimbor_event a, twimbor_event b)
 {
-    return a.code == b.code && a.start == b.start && a.length == b.length && a.volume == b.volume && a.began == b.began
-        && a.ended == b.ended;
+    return a.code == b.code && a.start == b.start && a.length == b.length && a.volume == b.volume && a.quietest == b.quietest
+        && a.began == b.began && a.ended == b.ended;
 }
 
 static bool same_codes(twimbor_codes a, twimbor_codes b)
@@ -62,7 +62,15 @@ static const uint8_t REPORTS[3][16] = {
     {0x80, 0x65, 0x00, 0x01, 0xFF, 0xFF, 0xFF, 0xF0, 0x11, 0x22, 0x33, 0x44, 0x05, 0x8A, 0x01, 0x90},
 };
 static const twimbor_head HEAD = {.payload_type = 101, .ssrc = 0x11223344, .origin = 0xFFFFFFF0, .codes = {.from_0 = 0xFFFF}, .count = 0};
-static const twimbor_segment HEARD = {.offset = 0, .code = 5, .duration = 400, .volume = 10, .ended = true, .marked = true};
+static const twimbor_segment HEARD = {
+    .offset = 0, .code = 5, .duration = 400, .volume = 10, .quietest = 10, .ended = true, .marked = true,
+};
+
+/* What was heard of a segment, in one number, as the header draws it. */
+static uint32_t heard_as(uint32_t volume, uint32_t quietest, uint32_t marked, uint32_t ended, uint32_t duration)
+{
+    return volume * 0x1000000 + quietest * 0x40000 + marked * 0x20000 + ended * 0x10000 + duration;
+}
 
 static uint8_t output[40];
 
@@ -463,8 +471,12 @@ static void capturing(void)
 static void listing(void)
 {
     static const twimbor_event none;
-    static const twimbor_event first = {.code = 5, .start = 0, .length = 65536, .volume = 7, .began = true, .ended = false};
-    static const twimbor_event second = {.code = 9, .start = 70000, .length = 400, .volume = 10, .began = false, .ended = true};
+    static const twimbor_event first = {
+        .code = 5, .start = 0, .length = 65536, .volume = 7, .quietest = 12, .began = true, .ended = false,
+    };
+    static const twimbor_event second = {
+        .code = 9, .start = 70000, .length = 400, .volume = 10, .quietest = 63, .began = false, .ended = true,
+    };
     twimbor_table *table = opened();
     twimbor_event list[4], old[4];
     memset(old, 0xAB, sizeof old);
@@ -472,9 +484,12 @@ static void listing(void)
     twimbor_listed l = twimbor_list(table, list, 0);
     EXPECT(l.refusal == 0 && l.events == 0 && memcmp(list, old, sizeof list) == 0);
 
-    twimbor_set_segment(table, 0, (twimbor_segment){.offset = 0, .code = 5, .duration = 65535, .volume = 10, .marked = true});
-    twimbor_set_segment(table, 1, (twimbor_segment){.offset = 65535, .code = 5, .duration = 1, .volume = 7});
-    twimbor_set_segment(table, 2, (twimbor_segment){.offset = 70000, .code = 9, .duration = 400, .volume = 10, .ended = true});
+    static const twimbor_segment held[] = {
+        {.offset = 0, .code = 5, .duration = 65535, .volume = 10, .quietest = 12, .marked = true},
+        {.offset = 65535, .code = 5, .duration = 1, .volume = 7, .quietest = 9},
+        {.offset = 70000, .code = 9, .duration = 400, .volume = 10, .quietest = 63, .ended = true},
+    };
+    for (size_t i = 0; i < 3; i++) twimbor_set_segment(table, i, held[i]);
     table->head.count = 3;
     twimbor_table before = *table;
     for (size_t records = 0; records <= 3; records++) {
@@ -496,7 +511,9 @@ static void listing(void)
 /* A key held for four short segments and a rest, with timestamps that pass 2^32: one event. */
 static void short_segments(void)
 {
-    static const twimbor_event want = {.code = 5, .start = 0, .length = 70, .volume = 10, .began = true, .ended = true};
+    static const twimbor_event want = {
+        .code = 5, .start = 0, .length = 70, .volume = 10, .quietest = 10, .began = true, .ended = true,
+    };
     twimbor_plan plan = P7;
     plan.length = 70;
     plan.period = 4;
@@ -517,35 +534,42 @@ static void short_segments(void)
     EXPECT(same_event(twimbor_event_at(table, 1).event, want) && around_stays());
 }
 
-/* A table that fails the tests, also by a count that reaches past its columns: every call says so, and nothing changes. */
-static void failing(void)
+/* Of a table that fails the tests: every call says so, and nothing changes. */
+static void fails(twimbor_table *table)
 {
     static const twimbor_event none;
+    twimbor_table before = *table;
+    size_t count = before.head.count;
+    twimbor_event list[1], old[1];
+    memset(old, 0xAB, sizeof old);
+    memcpy(list, old, sizeof list);
+    EXPECT(!twimbor_is_valid(table));
+    twimbor_received r = twimbor_receive(table, REPORTS[0], 16);
+    EXPECT(r.refusal == TWIMBOR_INVALID_TABLE && !r.is_new && r.count == count && r.probes == 0);
+    for (size_t bytes = 0; bytes <= 18; bytes += 6) {
+        put_frame(0, REPORTS[0], 16);
+        twimbor_captured c = twimbor_receive_capture(table, frames, bytes);
+        EXPECT(c.refusal == TWIMBOR_INVALID_TABLE && c.count == count && c.used == 0);
+        EXPECT(c.taken == 0 && c.refused == 0 && c.packed == 0 && same_table(table, &before));
+    }
+    uint32_t entry = 0xABABABAB;
+    twimbor_blocks_received b = twimbor_receive_redundant(table, REPORTS[0], 16, &entry, 1);
+    EXPECT(b.refusal == TWIMBOR_INVALID_TABLE && b.blocks == 0 && b.count == count && entry == 0xABABABAB);
+    twimbor_event_result e = twimbor_event_at(table, 1);
+    EXPECT(e.refusal == TWIMBOR_INVALID_TABLE && same_event(e.event, none));
+    twimbor_listed l = twimbor_list(table, list, 1);
+    EXPECT(l.refusal == TWIMBOR_INVALID_TABLE && l.events == 0 && memcmp(list, old, sizeof list) == 0);
+    EXPECT(same_table(table, &before) && around_stays());
+}
+
+/* Also by a count that reaches past the columns. */
+static void failing(void)
+{
     static const size_t counts[] = {1, 129, SIZE_MAX};
     for (int i = 0; i < 3; i++) {
         twimbor_table *table = opened();
         table->head.count = counts[i];
-        twimbor_table before = *table;
-        twimbor_event list[1], old[1];
-        memset(old, 0xAB, sizeof old);
-        memcpy(list, old, sizeof list);
-        EXPECT(!twimbor_is_valid(table));
-        twimbor_received r = twimbor_receive(table, REPORTS[0], 16);
-        EXPECT(r.refusal == TWIMBOR_INVALID_TABLE && !r.is_new && r.count == counts[i] && r.probes == 0);
-        for (size_t bytes = 0; bytes <= 18; bytes += 6) {
-            put_frame(0, REPORTS[0], 16);
-            twimbor_captured c = twimbor_receive_capture(table, frames, bytes);
-            EXPECT(c.refusal == TWIMBOR_INVALID_TABLE && c.count == counts[i] && c.used == 0);
-            EXPECT(c.taken == 0 && c.refused == 0 && c.packed == 0 && same_table(table, &before));
-        }
-        uint32_t entry = 0xABABABAB;
-        twimbor_blocks_received b = twimbor_receive_redundant(table, REPORTS[0], 16, &entry, 1);
-        EXPECT(b.refusal == TWIMBOR_INVALID_TABLE && b.blocks == 0 && b.count == counts[i] && entry == 0xABABABAB);
-        twimbor_event_result e = twimbor_event_at(table, 1);
-        EXPECT(e.refusal == TWIMBOR_INVALID_TABLE && same_event(e.event, none));
-        twimbor_listed l = twimbor_list(table, list, 1);
-        EXPECT(l.refusal == TWIMBOR_INVALID_TABLE && l.events == 0 && memcmp(list, old, sizeof list) == 0);
-        EXPECT(same_table(table, &before) && around_stays());
+        fails(table);
     }
 }
 
@@ -563,9 +587,9 @@ static const uint8_t REDUNDANT[33] = {
 };
 /* What it says to a table. */
 static const twimbor_segment BLOCKS[3] = {
-    {.offset = 0, .code = 5, .duration = 400, .volume = 10, .ended = true, .marked = false},
-    {.offset = 600, .code = 6, .duration = 200, .volume = 10, .ended = false, .marked = false},
-    {.offset = 1000, .code = 7, .duration = 100, .volume = 20, .ended = false, .marked = true},
+    {.offset = 0, .code = 5, .duration = 400, .volume = 10, .quietest = 10, .ended = true, .marked = false},
+    {.offset = 600, .code = 6, .duration = 200, .volume = 10, .quietest = 10, .ended = false, .marked = false},
+    {.offset = 1000, .code = 7, .duration = 100, .volume = 20, .quietest = 20, .ended = false, .marked = true},
 };
 
 static uint8_t write_redundant(uint32_t count, size_t room)
@@ -819,7 +843,7 @@ static void receiving_others(void)
     size_t at = put_frame(put_frame(0, REDUNDANT, 33), REPORTS[0], 16);
     EXPECT(captured(twimbor_receive_capture(table, frames, at), 1, at, 1, 1, 0));
     EXPECT(same_segment(twimbor_segment_at(table, 0), (twimbor_segment){
-        .offset = 0, .code = 5, .duration = 400, .volume = 10, .ended = false, .marked = true}));
+        .offset = 0, .code = 5, .duration = 400, .volume = 10, .quietest = 10, .ended = false, .marked = true}));
 }
 
 /* RFC 4733, Figure 5: tones of type 101 are primary, and before them stands the last report of a 1, of type 100. */
@@ -829,7 +853,9 @@ static void figure_5(void)
         0x80, 0x66, 0x00, 0x12, 0x00, 0x00, 0x32, 0x00, 0x00, 0x52, 0x34, 0xA8,
         0xE4, 0x19, 0x00, 0x04, 0x65, 0x01, 0x94, 0x06, 0xE0, 0x00, 0x14, 0x00, 0xA0, 0x02, 0xB9, 0x04, 0xB9,
     };
-    static const twimbor_segment one = {.offset = 11200, .code = 1, .duration = 1760, .volume = 20, .ended = true, .marked = false};
+    static const twimbor_segment one = {
+        .offset = 11200, .code = 1, .duration = 1760, .volume = 20, .quietest = 20, .ended = true, .marked = false,
+    };
     twimbor_table *table = opened_for_both();
     EXPECT(twimbor_open_redundant(table, TWIMBOR_KEYS, 100, 102, 0x5234A8, 0) == 0);
     EXPECT(is_received(table, packet, sizeof packet, 1, 1, 1) && entries[0] == ENTRY(0, 1, 0));
@@ -908,9 +934,9 @@ static void receiving_mixed(void)
         for (size_t i = 0; i < MIXED && n < blocks; i++)
             if (mixed[i].entry != PASSED_OVER) EXPECT(entries[n++] == mixed[i].entry);
         want.head.count = 2;
-        twimbor_set_segment(&want, 0, (twimbor_segment){.offset = 0, .code = 4, .duration = 65535, .volume = 63});
+        twimbor_set_segment(&want, 0, (twimbor_segment){.offset = 0, .code = 4, .duration = 65535, .volume = 63, .quietest = 63});
         twimbor_set_segment(&want, 1, (twimbor_segment){
-            .offset = 0, .code = 5, .duration = primary ? 401 : 400, .volume = 3, .ended = true, .marked = primary});
+            .offset = 0, .code = 5, .duration = primary ? 401 : 400, .volume = 3, .quietest = 10, .ended = true, .marked = primary});
         EXPECT(same_table(table, &want));
     }
 }
@@ -920,11 +946,14 @@ static void receiving_many(void)
 {
     twimbor_table *table = opened_for_both();
     for (uint32_t i = 0; i < 128; i++)
-        twimbor_set_segment(table, i, (twimbor_segment){.offset = i < 127 ? i : 1000, .code = i == 0 ? 5 : 7, .duration = 1, .volume = 63});
+        twimbor_set_segment(table, i, (twimbor_segment){
+            .offset = i < 127 ? i : 1000, .code = i == 0 ? 5 : 7, .duration = 1, .volume = 15, .quietest = 15});
     table->head.count = 128;
     EXPECT(is_received(table, REDUNDANT, 33, 3, 3, 128));
     EXPECT(entries[0] == ENTRY(0, 0, 8) && entries[1] == ENTRY(TWIMBOR_TABLE_FULL, 0, 7) && entries[2] == ENTRY(0, 0, 7));
-    EXPECT(same_segment(twimbor_segment_at(table, 0), BLOCKS[0]) && same_segment(twimbor_segment_at(table, 127), BLOCKS[2]));
+    twimbor_segment louder = BLOCKS[0], quieter = BLOCKS[2];
+    louder.quietest = quieter.volume = 15;
+    EXPECT(same_segment(twimbor_segment_at(table, 0), louder) && same_segment(twimbor_segment_at(table, 127), quieter));
 
     static uint8_t packet[1500];
     memcpy(packet, REDUNDANT, 12);
@@ -934,6 +963,183 @@ static void receiving_many(void)
     EXPECT(is_refused(table, packet, 1500, TWIMBOR_ENTRIES_OF_1500 - 1, TWIMBOR_LIST_TOO_SMALL));
     EXPECT(is_received(table, packet, 1500, TWIMBOR_ENTRIES_OF_1500, TWIMBOR_ENTRIES_OF_1500, 0));
     for (size_t i = 0; i < TWIMBOR_ENTRIES_OF_1500; i++) EXPECT(entries[i] == TWIMBOR_NOT_ONE_REPORT);
+}
+
+/* Writes P7's first report with another volume and so much later into the output. */
+static bool says(uint32_t offset, uint32_t volume)
+{
+    twimbor_report report = FIRST;
+    report.timestamp += offset;
+    report.volume = volume;
+    return twimbor_write(TWIMBOR_KEYS, report, output, 16) == 0;
+}
+
+/* What is listed of it after some of them. */
+static bool is_listed(const twimbor_table *table, uint8_t volume, uint8_t quietest)
+{
+    twimbor_event want = {.code = 5, .start = 0, .length = 400, .volume = volume, .quietest = quietest, .began = true}, list[1];
+    return same_event(twimbor_event_at(table, 1).event, want) && twimbor_list(table, list, 1).events == 1 && same_event(list[0], want);
+}
+
+/* Three reports of one segment, of every three volumes. One as loud as another changes nothing, a louder or a quieter one its field. */
+static void hearing(void)
+{
+    for (uint32_t n = 0; n < 64 * 64 * 64; n++) {
+        const uint32_t volumes[] = {n % 64, n / 64 % 64, n / 64 / 64};
+        twimbor_segment heard = {.duration = 400, .code = 5, .volume = 63, .marked = true};
+        twimbor_table *table = opened(), want = *table;
+        for (int i = 0; i < 3; i++) {
+            if (volumes[i] < heard.volume) heard.volume = (uint8_t)volumes[i];
+            if (volumes[i] > heard.quietest) heard.quietest = (uint8_t)volumes[i];
+            EXPECT(says(0, volumes[i]) && twimbor_receive(table, output, 16).refusal == 0);
+            EXPECT(table->heard[0] == heard_as(heard.volume, heard.quietest, 1, 0, 400));
+        }
+        twimbor_set_segment(&want, 0, heard);
+        want.head.count = 1;
+        EXPECT(same_table(table, &want) && same_segment(twimbor_segment_at(table, 0), heard));
+        if (n % 67 == 0) EXPECT(is_listed(table, heard.volume, heard.quietest));
+    }
+}
+
+/* A new segment between two held ones, and then a louder and a quieter report of it: the neighbours keep what was heard of them. */
+static void hearing_between(void)
+{
+    static const struct {
+        uint32_t offset, volume;
+    } said[] = {{0, 5}, {0, 50}, {2000, 9}, {2000, 7}, {1000, 30}, {1000, 20}, {1000, 40}};
+    static const twimbor_segment held[] = {
+        {.offset = 0, .code = 5, .duration = 400, .volume = 5, .quietest = 50, .marked = true},
+        {.offset = 1000, .code = 5, .duration = 400, .volume = 20, .quietest = 40, .marked = true},
+        {.offset = 2000, .code = 5, .duration = 400, .volume = 7, .quietest = 9, .marked = true},
+    };
+    twimbor_table *table = opened(), want = *table;
+    for (size_t i = 0; i < sizeof said / sizeof *said; i++)
+        EXPECT(says(said[i].offset, said[i].volume) && twimbor_receive(table, output, 16).is_new == (i % 2 == 0 && i < 6));
+    for (size_t i = 0; i < 3; i++) twimbor_set_segment(&want, i, held[i]);
+    want.head.count = 3;
+    EXPECT(same_table(table, &want) && around_stays());
+}
+
+/* Three things in every order. */
+static const int ORDERS[6][3] = {{0, 1, 2}, {0, 2, 1}, {1, 0, 2}, {1, 2, 0}, {2, 0, 1}, {2, 1, 0}};
+
+/* The same three reports by the other calls: as a capture, as plain packets, and as the blocks of one redundant packet. */
+static void hearing_by_all_calls(void)
+{
+    static const uint8_t volumes[] = {20, 3, 41};
+    for (int order = 0; order < 6; order++) {
+        twimbor_table *table = opened();
+        twimbor_older_report older[3];
+        size_t at = 0;
+        for (int i = 0; i < 3; i++) {
+            uint8_t volume = volumes[ORDERS[order][i]];
+            EXPECT(says(0, volume));
+            at = put_frame(at, output, 16);
+            older[i] = (twimbor_older_report){.timestamp = FIRST.timestamp, .code = 5, .volume = volume, .duration = 400};
+        }
+        EXPECT(captured(twimbor_receive_capture(table, frames, at), 1, at, 3, 0, 0));
+        EXPECT(table->heard[0] == heard_as(3, 41, 1, 0, 400) && is_listed(table, 3, 41));
+
+        table = opened_for_both();
+        for (int i = 0; i < 3; i++) EXPECT(is_received(table, frames + 18 * i + 2, 16, 1, 1, 1));
+        EXPECT(table->heard[0] == heard_as(3, 41, 1, 0, 400) && is_listed(table, 3, 41));
+
+        table = opened_for_both();
+        twimbor_report report = FIRST;
+        report.volume = older[2].volume;
+        EXPECT(twimbor_write_redundant(TWIMBOR_KEYS, report, 100, 2, older[0], older[1], output, 33) == 0);
+        EXPECT(is_received(table, output, 33, 3, 3, 1));
+        EXPECT(table->heard[0] == heard_as(3, 41, 1, 0, 400) && is_listed(table, 3, 41));
+    }
+}
+
+/* A key of three segments, each heard otherwise, in every order, and another key meanwhile: an event has the loudest and the quietest of
+ * its own. */
+static void hearing_segments(void)
+{
+    static const uint8_t volumes[3][2] = {{10, 12}, {7, 9}, {8, 60}};
+    static const twimbor_event first = {.code = 5, .start = 0, .length = 300, .volume = 7, .quietest = 60, .began = true};
+    static const twimbor_event second = {.code = 6, .start = 100, .length = 50, .volume = 0, .quietest = 63, .began = true};
+    for (int order = 0; order < 6; order++) {
+        twimbor_table *table = opened();
+        for (int i = 0; i < 3; i++) {
+            const uint8_t *heard = volumes[ORDERS[order][i]];
+            twimbor_set_segment(table, i < 2 ? i : 3, (twimbor_segment){
+                .offset = 100 * i, .code = 5, .duration = 100, .volume = heard[0], .quietest = heard[1], .marked = i == 0});
+        }
+        twimbor_set_segment(table, 2, (twimbor_segment){
+            .offset = 100, .code = 6, .duration = 50, .volume = 0, .quietest = 63, .marked = true});
+        table->head.count = 4;
+        twimbor_event list[2];
+        twimbor_listed l = twimbor_list(table, list, 2);
+        EXPECT(l.refusal == 0 && l.events == 2 && same_event(list[0], first) && same_event(list[1], second));
+        EXPECT(same_event(twimbor_event_at(table, 1).event, first) && same_event(twimbor_event_at(table, 2).event, second));
+    }
+}
+
+/* A key as it is sent, in five segments, all of it or no more than is needed: both are the volume sent. */
+static void hearing_what_is_sent(void)
+{
+    twimbor_plan plan = P7;
+    plan.length = 70;
+    plan.period = 4;
+    plan.segment_size = 15;
+    for (plan.volume = 0; plan.volume < 64; plan.volume++)
+        for (int all = 0; all < 2; all++) {
+            twimbor_table *table = opened();
+            for (uint32_t k = 1; k <= 29; k++) {
+                EXPECT(twimbor_write_report(TWIMBOR_KEYS, plan, k, output, 16) == 0);
+                if (all || k == 1 || k % 6 == 0 || k == 29) EXPECT(twimbor_receive(table, output, 16).refusal == 0);
+            }
+            twimbor_event want = {.code = 5, .length = 70, .began = true, .ended = true}, list[1];
+            want.volume = want.quietest = (uint8_t)plan.volume;
+            EXPECT(twimbor_list(table, list, 1).events == 1 && same_event(list[0], want));
+            EXPECT(same_event(twimbor_event_at(table, 1).event, want) && table->head.count == 5);
+        }
+}
+
+/* Volumes on both sides of each edge of 16. A quietest from 64 on has no room; it and a volume look like smaller ones in fewer bits. */
+static const struct {
+    uint8_t volume, quietest;
+    bool passes;
+} levels[] = {
+    {0, 0, true}, {1, 0, false}, {10, 9, false}, {10, 10, true}, {10, 11, true}, {0, 63, true}, {63, 62, false}, {63, 63, true},
+    {64, 63, false}, {64, 0, false}, {127, 63, false}, {128, 63, false}, {192, 63, false}, {255, 63, false}, {255, 0, false},
+    {64 + 10, 11, false}, {128 + 10, 11, false}, {192 + 10, 11, false}, {0, 64, false}, {63, 64, false}, {64, 64, false},
+    {10, 64 + 10, false}, {10, 128 + 11, false}, {10, 192 + 11, false}, {0, 127, false}, {0, 128, false}, {0, 192, false}, {0, 255, false},
+    {63, 255, false}, {127, 127, false}, {128, 128, false}, {255, 255, false},
+};
+
+static void testing_levels(void)
+{
+    static const size_t counts[] = {1, 2, 3, 4, 5, 8, 127, 128};
+    for (size_t i = 0; i < sizeof levels / sizeof *levels; i++)
+        for (size_t j = 0; j < sizeof counts / sizeof *counts; j++)
+            for (size_t place = 0; place <= counts[j]; place++) {
+                twimbor_segment held = {.code = 5, .duration = 1, .volume = 20, .quietest = 30};
+                twimbor_table *table = opened();
+                for (; held.offset < counts[j]; held.offset++) twimbor_set_segment(table, held.offset, held);
+                table->head.count = counts[j];
+                EXPECT(twimbor_is_valid(table));
+                held.offset = (uint32_t)place;
+                held.volume = levels[i].volume;
+                held.quietest = levels[i].quietest;
+                twimbor_set_segment(table, place, held); /* the last time in a place that holds none */
+                bool passes = levels[i].passes || place == counts[j];
+                EXPECT(twimbor_is_valid(table) == passes);
+                if (!passes) fails(table);
+            }
+
+    /* Every number that the two fields can say, with the others at their ends. */
+    static const uint32_t durations[] = {0, 1, 65535};
+    twimbor_table *table = opened();
+    twimbor_set_segment(table, 0, HEARD);
+    table->head.count = 1;
+    for (uint32_t n = 0; n < 256 * 64 * 4 * 3; n++) {
+        uint32_t volume = n % 256, quietest = n / 256 % 64, flags = n >> 14 & 3, duration = durations[n >> 16];
+        table->heard[0] = heard_as(volume, quietest, flags >> 1, flags & 1, duration);
+        EXPECT(twimbor_is_valid(table) == (volume <= quietest && duration > 0));
+    }
 }
 
 /* Heads that only a caller can fill: the kind of a table by any byte, and a type that plays no part in one of the first opening. */
@@ -1083,19 +1289,23 @@ static void reading_entries(void)
 }
 
 /* The two functions that stand in the header alone. Numbers above their range fit their fields; what does not fit, only a column that
- * a caller filled can hold. */
+ * a caller filled can hold, or a quietest above 63, with which the volume is put as 255 and no other field is touched. */
 static void segments(void)
 {
     static const twimbor_segment zeros;
-    static const twimbor_segment high = {.offset = 0x80000001, .code = 0x9A, .duration = 0xBCDE, .volume = 0x81, .ended = true};
-    static const twimbor_segment too_high = {.offset = UINT32_MAX, .code = 0, .duration = 0, .volume = UINT8_MAX, .marked = true};
+    static const twimbor_segment high = {
+        .offset = 0x80000001, .code = 0x9A, .duration = 0xBCDE, .volume = 0xC1, .quietest = 0x2E, .ended = true,
+    };
+    static const twimbor_segment too_high = {
+        .offset = UINT32_MAX, .code = 0, .duration = 0xFFFF, .volume = 255, .quietest = 63, .ended = true, .marked = true,
+    };
     twimbor_table *table = opened(), want = *table;
     twimbor_set_segment(table, 0, high);
     want.keys[0] = 0x800000019A;
-    want.heard[0] = 0x81 << 18 | 1 << 16 | 0xBCDE;
+    want.heard[0] = heard_as(0xC1, 0x2E, 0, 1, 0xBCDE);
     twimbor_set_segment(table, 127, HEARD);
     want.keys[127] = 5;
-    want.heard[127] = 10 << 18 | 1 << 17 | 1 << 16 | 400;
+    want.heard[127] = heard_as(10, 10, 1, 1, 400);
     twimbor_set_segment(table, 128, HEARD);
     twimbor_set_segment(table, SIZE_MAX, HEARD);
     EXPECT(same_table(table, &want) && around_stays());
@@ -1108,8 +1318,17 @@ static void segments(void)
     EXPECT(same_segment(twimbor_segment_at(table, 127), HEARD) && same_segment(twimbor_segment_at(table, 128), zeros));
 
     table->keys[0] = (uint64_t)1 << 40;
-    table->heard[0] = 1 << 26 | 1 << 17;
+    table->heard[0] = UINT32_MAX;
     EXPECT(same_segment(twimbor_segment_at(table, 0), too_high));
+    table->head.count = 1;
+    for (uint32_t n = 0; n < 256 * 256; n++) {
+        twimbor_segment any = {.code = 5, .duration = 1, .volume = (uint8_t)n, .quietest = (uint8_t)(n >> 8)};
+        bool fits = any.quietest <= 63;
+        twimbor_set_segment(table, 0, any);
+        EXPECT(table->heard[0] == heard_as(fits ? any.volume : 255, any.quietest % 64, 0, 0, 1));
+        EXPECT(twimbor_is_valid(table) == (any.volume <= any.quietest && fits));
+        if (fits) EXPECT(same_segment(twimbor_segment_at(table, 0), any));
+    }
 }
 
 /* Words and keys at their edges; rust/tests/layout.rs compares all of them. In fewer bits the last numbers look like 0 or 1. */
@@ -1153,6 +1372,12 @@ int main(void)
     receiving_plain();
     receiving_mixed();
     receiving_many();
+    hearing();
+    hearing_between();
+    hearing_by_all_calls();
+    hearing_segments();
+    hearing_what_is_sent();
+    testing_levels();
     kinds();
     taking_sets();
     reading_entries();

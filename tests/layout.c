@@ -109,8 +109,9 @@ AT(twimbor_segment, offset, 0, 4);
 AT(twimbor_segment, code, 4, 1);
 AT(twimbor_segment, duration, 6, 2);
 AT(twimbor_segment, volume, 8, 1);
-AT(twimbor_segment, ended, 9, 1);
-AT(twimbor_segment, marked, 10, 1);
+AT(twimbor_segment, quietest, 9, 1);
+AT(twimbor_segment, ended, 10, 1);
+AT(twimbor_segment, marked, 11, 1);
 
 SIZE(twimbor_received, 32);
 AT(twimbor_received, refusal, 0, 8);
@@ -136,8 +137,9 @@ AT(twimbor_event, code, 0, 1);
 AT(twimbor_event, start, 4, 4);
 AT(twimbor_event, length, 8, 4);
 AT(twimbor_event, volume, 12, 1);
-AT(twimbor_event, began, 13, 1);
-AT(twimbor_event, ended, 14, 1);
+AT(twimbor_event, quietest, 13, 1);
+AT(twimbor_event, began, 14, 1);
+AT(twimbor_event, ended, 15, 1);
 
 SIZE(twimbor_event_result, 20);
 AT(twimbor_event_result, event, 0, 16);

@@ -34,10 +34,7 @@ INLINE uint8_t take(twimbor_table *t, const uint8_t *p)
 
     size_t place = place_of(t, key);
     if (place < t->head.count && t->keys[place] == key) {
-        uint32_t heard = t->heard[place];
-        if (duration(heard) > units) units = duration(heard);
-        if (volume(heard) < level) level = volume(heard);
-        t->heard[place] = level << 18 | (heard & (E | M)) | flags | units;
+        t->heard[place] = merged(t->heard[place], level, flags, units);
         return 0;
     }
     if (t->head.count == 128) return 11;
@@ -47,7 +44,7 @@ INLINE uint8_t take(twimbor_table *t, const uint8_t *p)
         memmove(t->heard + place + 1, t->heard + place, above * sizeof *t->heard);
     }
     t->keys[place] = key;
-    t->heard[place] = level << 18 | flags | units;
+    t->heard[place] = first(level, flags, units);
     t->head.count++;
     return 0;
 }

@@ -59,7 +59,9 @@ int main(void)
     static twimbor_event out[128];
     size_t events = plain_list(&t, out, 128).events;
     for (size_t k = 0; k < events; k++)
-        printf("start=%u\nkey=%u\nunits=%u\nvolume=%u\nbegan=%d\nended=%d\n", out[k].start, out[k].code, out[k].length, out[k].volume, out[k].began, out[k].ended);
-    printf("events=%zu\ntaken=%llu\nrefused=%llu\npacked=%llu\ncut=%d\n", events, (unsigned long long)taken, (unsigned long long)refused, (unsigned long long)packed, kept > 0);
+        printf("start=%u\nkey=%u\nunits=%u\nvolume=%u\nquietest=%u\nbegan=%d\nended=%d\n", out[k].start, out[k].code, out[k].length,
+            out[k].volume, out[k].quietest, out[k].began, out[k].ended);
+    printf("events=%zu\ntaken=%llu\nrefused=%llu\npacked=%llu\ncut=%d\n", events, (unsigned long long)taken,
+        (unsigned long long)refused, (unsigned long long)packed, kept > 0);
     return 0;
 }

@@ -69,10 +69,7 @@ INLINE uint32_t take(twimbor_table *t, const uint8_t *b, size_t length, uint32_t
         else high = middle;
     }
     if (low < t->head.count && t->keys[low] == key) {
-        uint32_t heard = t->heard[low];
-        if (duration(heard) > units) units = duration(heard);
-        if (volume(heard) < level) level = volume(heard);
-        t->heard[low] = level << 18 | (heard & (E | M)) | flags | units;
+        t->heard[low] = merged(t->heard[low], level, flags, units);
         return probes;
     }
     if (t->head.count == 128) return probes | 11;
@@ -82,7 +79,7 @@ INLINE uint32_t take(twimbor_table *t, const uint8_t *b, size_t length, uint32_t
         memmove(t->heard + low + 1, t->heard + low, above * sizeof *t->heard);
     }
     t->keys[low] = key;
-    t->heard[low] = level << 18 | flags | units;
+    t->heard[low] = first(level, flags, units);
     t->head.count++;
     return probes | 256;
 }

@@ -1,11 +1,11 @@
 /* The tests of 16, the receiving call and the event list in plain C, the table behind a pointer.
  *
- * Written for speed. Tried as a table: 12-byte records, these two columns, five columns, and one 64-bit number for each segment.
- * The two columns are fastest, but for the single number, which cannot hold most of what 16 is for and saves nothing. Tried as
- * tests: each on each segment, only rising order and durations with an exit and the rest gathered, no exit at all; one, two and
- * four segments at a time. This is the fastest with 16 segments held and more, and within 1 ns of it with fewer. Each code looked up
- * in the set, in the same pass, takes 40 ns more with 128 held. Of the ways to write the search, one that branches is fastest on the
- * packets of bench/table.c, which come in a fixed cycle. */
+ * Written for speed, and built with -O3, where the compiler takes four segments at a time in the tests. Tried as a table: 12-byte
+ * records, these two columns, five columns, and one 64-bit number for each segment. The two columns are fastest, but for the single
+ * number, which cannot hold most of what 16 is for and saves nothing. Tried as tests: rising order and durations with an exit and the rest
+ * gathered, which takes 1 ns less with 4 segments held and twice as long with 64 and more; a loop for each column, and vectors by name,
+ * within 2 ns of this. Each code looked up in the set, in the same pass, takes 40 ns more with 128 held. Of the ways to write the search,
+ * one that branches is fastest on the packets of bench/table.c, which come in a fixed cycle. */
 #include "inline.h"
 
 bool plain_is_valid(const twimbor_table *t)
@@ -54,9 +54,7 @@ INLINE plain_answer receive_valid(twimbor_table *t, const uint8_t *p, size_t n)
     uint64_t *k = t->keys + low;
     uint32_t *h = t->heard + low;
     if (low < t->head.count && *k == key) {
-        if (duration(*h) > units) units = duration(*h);
-        if (volume(*h) < level) level = volume(*h);
-        *h = level << 18 | (*h & (E | M)) | flags | units;
+        *h = merged(*h, level, flags, units);
         return (plain_answer){0, false, probes};
     }
     size_t above = t->head.count - low;
@@ -64,7 +62,7 @@ INLINE plain_answer receive_valid(twimbor_table *t, const uint8_t *p, size_t n)
     memmove(k + 1, k, above * sizeof *k);
     memmove(h + 1, h, above * sizeof *h);
     *k = key;
-    *h = level << 18 | flags | units;
+    *h = first(level, flags, units);
     t->head.count++;
     return (plain_answer){0, true, probes};
 }
@@ -99,13 +97,14 @@ INLINE bool continues(const twimbor_table *t, size_t i)
 static twimbor_event event_from(const twimbor_table *t, size_t i)
 {
     uint32_t h = t->heard[i];
-    twimbor_event v = {code(t->keys[i]), (uint32_t)(t->keys[i] >> 8), duration(h), volume(h), h & M, h & E};
+    twimbor_event v = {code(t->keys[i]), (uint32_t)(t->keys[i] >> 8), duration(h), volume(h), quietest(h), h & M, h & E};
     for (size_t j = i + 1; j < t->head.count; j++) {
         if (code(t->keys[j]) != v.code) continue;
         h = t->heard[j];
         if (h & M || !follows(t, i, j)) break;
         v.length += duration(h);
         if (volume(h) < v.volume) v.volume = volume(h);
+        if (quietest(h) > v.quietest) v.quietest = quietest(h);
         v.ended = h & E;
         i = j;
     }

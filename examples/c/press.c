@@ -28,7 +28,8 @@ int main(void)
     if (listed.refusal != 0) return 1;
     printf("%u packets, %zu segments, %zu event\n", (unsigned)count.reports, table.head.count, listed.events);
     for (size_t i = 0; i < listed.events; i++)
-        printf("key %c, from %u on, %u units, volume %u, began %d, ended %d\n", twimbor_key_character(events[i].code),
-            (unsigned)events[i].start, (unsigned)events[i].length, (unsigned)events[i].volume, events[i].began, events[i].ended);
+        printf("key %c, from %u on, %u units, volume %u, quietest %u, began %d, ended %d\n", twimbor_key_character(events[i].code),
+            (unsigned)events[i].start, (unsigned)events[i].length, (unsigned)events[i].volume, (unsigned)events[i].quietest,
+            events[i].began, events[i].ended);
     return 0;
 }

@@ -83,8 +83,9 @@ int main(void)
     twimbor_listed listed = twimbor_list(&table, events, TWIMBOR_PLACES);
     if (listed.refusal != 0) return 1;
     for (size_t i = 0; i < listed.events; i++)
-        printf("key %c, from %u on, %u units, volume %u, began %d, ended %d\n", twimbor_key_character(events[i].code),
-            (unsigned)events[i].start, (unsigned)events[i].length, (unsigned)events[i].volume, events[i].began, events[i].ended);
+        printf("key %c, from %u on, %u units, volume %u, quietest %u, began %d, ended %d\n", twimbor_key_character(events[i].code),
+            (unsigned)events[i].start, (unsigned)events[i].length, (unsigned)events[i].volume, (unsigned)events[i].quietest,
+            events[i].began, events[i].ended);
     print_blocks(&second);
     return 0;
 }

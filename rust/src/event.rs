@@ -10,6 +10,8 @@ pub struct Event {
     pub length: u32,
     /// The smallest number of its segments, the loudest.
     pub volume: u8,
+    /// The largest number of its segments.
+    pub quietest: u8,
     /// Its first segment was marked.
     pub began: bool,
     /// Its last segment has E.

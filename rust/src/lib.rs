@@ -29,7 +29,8 @@
 //! for packet in key.packets(codes)? {
 //!     table.receive(&packet)?;
 //! }
-//! let event = Event { code: 5, start: 1000, length: 800, volume: 10, began: true, ended: true };
+//! let [volume, quietest] = [10, 10]; // the loudest and the quietest report
+//! let event = Event { code: 5, start: 1000, length: 800, volume, quietest, began: true, ended: true };
 //! assert_eq!(table.events()?, [event]);
 //!
 //! // A report's duration ends at 65,535 units, so a key that is held longer arrives in segments,

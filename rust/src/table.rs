@@ -18,6 +18,8 @@ pub struct Segment {
     pub duration: u16,
     /// The smallest number heard, the loudest; 0 to 63.
     pub volume: u8,
+    /// The largest number heard; from `volume` to 63.
+    pub quietest: u8,
     /// E was heard.
     pub ended: bool,
     /// M was heard.
@@ -31,7 +33,8 @@ impl Segment {
             offset: u32::try_from(key >> 8).unwrap_or(u32::MAX),
             code: key as u8,
             duration: heard as u16,
-            volume: u8::try_from(heard >> 18).unwrap_or(u8::MAX),
+            volume: (heard >> 24) as u8,
+            quietest: (heard >> 18 & 63) as u8,
             ended: heard >> 16 & 1 == 1,
             marked: heard >> 17 & 1 == 1,
         }
@@ -43,7 +46,10 @@ impl Segment {
 
     fn heard(&self) -> u32 {
         let flags = u32::from(self.ended) << 16 | u32::from(self.marked) << 17;
-        u32::from(self.duration) | flags | u32::from(self.volume) << 18
+        // A quietest above 63 has no room; a volume of 255 is outside the range too.
+        let volume = if self.quietest > 63 { u8::MAX } else { self.volume };
+        let volumes = u32::from(self.quietest & 63) << 18 | u32::from(volume) << 24;
+        u32::from(self.duration) | flags | volumes
     }
 }
 
@@ -97,7 +103,7 @@ pub struct Table {
     /// the lowest 8 bits, the offset above. What stands in the others plays no part.
     pub keys: [u64; PLACES],
     /// What was heard of the same segments: the duration in the lowest 16 bits, then E, then M, the
-    /// volume above.
+    /// quietest in 6 bits, the volume above.
     pub heard: [u32; PLACES],
 }
 
@@ -240,9 +246,8 @@ impl Table {
         self.head.codes
     }
 
-    /// The segments held, by offset, then code. In a table that fails the tests, an offset or a
-    /// volume too large for its field reads as the largest number of the field, which is outside
-    /// the range too.
+    /// The segments held, by offset, then code. In a table that fails the tests, an offset too large
+    /// for its field reads as the largest number of the field, which is outside the range too.
     pub fn segments(&self) -> impl ExactSizeIterator<Item = Segment> {
         let numbers = self.keys.iter().zip(&self.heard).take(self.head.count);
         numbers.map(|(&key, &heard)| Segment::of_numbers(key, heard))
@@ -250,8 +255,8 @@ impl Table {
 
     /// Whether the table passes the tests of refusal 16: at most 128 segments, strictly rising by
     /// offset, then code; offsets below 2^31, codes of the table's set, which may be empty if nothing
-    /// is held, durations at least 1, volumes 0 to 63; payload type up to 127; in a table opened for
-    /// both types the other one up to 127 too, and another.
+    /// is held, durations at least 1, volumes 0 to 63, the quietest not below the loudest; payload
+    /// type up to 127; in a table opened for both types the other one up to 127 too, and another.
     pub fn is_valid(&self) -> bool {
         sys::is_valid_columns(self.head, &self.keys, &self.heard)
     }

@@ -1,7 +1,9 @@
 //! The rows of document 01, "Both sides of each edge", those of packed packets, of segments of any
-//! size, of whole captures, of redundant packets and of sets of codes, and the words of the refusals.
+//! size, of whole captures, of redundant packets, of sets of codes and of the loudest and quietest,
+//! and the words of the refusals.
 
 use std::collections::HashSet;
+use twimbor::sys::{self, EventResult};
 use twimbor::{Block, Blocks, Captured, Codes, Entry, Event, OlderReport, Plan, Refusal, Report};
 use twimbor::{Segment, Table, Taken, UnknownRefusal};
 
@@ -283,8 +285,7 @@ fn a_capture_goes_on_from_the_bytes_used() {
         let after = table.receive_capture(&all[before.used..]).unwrap();
         assert_eq!(before.used + after.used, all.len());
         assert_eq!((before.taken + after.taken, before.refused + after.refused), (3, 1));
-        let event = Event { code: 5, length: 400, volume: 10, began: true, ended: true, start: 0 };
-        assert_eq!(table.events().unwrap(), [event]);
+        assert_eq!(table.events().unwrap(), [Event { ended: true, ..press(10, 10) }]);
     }
 }
 
@@ -442,7 +443,7 @@ fn a_refused_block_stops_none_and_only_the_primary_is_marked() {
     assert_eq!(table.receive_redundant(&packet, &mut entries), Ok(6));
     let (new, second) = (0x100, 0x1_0100); // the second one is looked for among one
     assert_eq!(entries.map(|entry| entry.number()), [new, 7, 17, 8, 9, second]);
-    let first = Segment { code: 5, volume: 10, duration: 400, ..Segment::default() };
+    let first = Segment { code: 5, volume: 10, quietest: 10, duration: 400, ..Segment::default() };
     let last = Segment { offset: 48, code: 6, duration: 9, marked: true, ..first };
     assert!(table.segments().eq([first, last]));
 
@@ -464,7 +465,8 @@ fn a_full_table_refuses_a_block_and_takes_a_later_one() {
     assert_eq!(table.receive_redundant(&packet, &mut entries), Ok(2));
     assert_eq!(entries.map(|entry| entry.answer()), [Err(Refusal::TableFull), Ok(Taken::Known)]);
     assert_eq!(entries.map(|entry| entry.probes()), [8, 7]);
-    assert_eq!(table.segments().nth(48), Some(Segment { duration: 9, ..segment(48) }));
+    let quieter = Segment { duration: 9, quietest: 10, ..segment(48) };
+    assert_eq!(table.segments().nth(48), Some(quieter));
 }
 
 /// P7's report, 48 units later, and two older ones.
@@ -583,9 +585,9 @@ fn figure_5_has_an_event_before_a_tone() {
     let mut entries = [Entry::default()];
     assert_eq!(table.receive_redundant(&packet, &mut entries), Ok(1));
     assert_eq!(entries[0].answer(), Ok(Taken::New));
-    let (code, start, length, volume) = (1, 11_200, 1_760, 20);
-    let event = Event { code, start, length, volume, began: false, ended: true };
-    assert_eq!(table.events().unwrap(), [event]);
+    let (code, start, length) = (1, 11_200, 1_760);
+    let one = Event { code, start, length, began: false, ended: true, ..press(20, 20) };
+    assert_eq!(table.events().unwrap(), [one]);
 
     // For a table whose events are of the tones' type, its eight bytes are two reports.
     let mut table = Table::open_redundant(KEYS, 101, 102, 0x5234A8, 0).unwrap();
@@ -599,6 +601,196 @@ fn volume_ends_at_63() {
     assert_eq!(report.write(KEYS, &mut [0; 16]), Ok(()));
     let too_large = Report { volume: 64, ..report };
     assert_eq!(too_large.write(KEYS, &mut [0; 16]), Err(Refusal::OutOfRange));
+}
+
+/// What is listed of P7 if its first report is heard, with these volumes.
+fn press(volume: u8, quietest: u8) -> Event {
+    let heard = Event { volume, quietest, ..Event::default() };
+    Event { code: 5, length: 400, began: true, ..heard }
+}
+
+/// P7's first report, so much later and with another volume.
+fn first_report(later: u32, volume: u8) -> Vec<u8> {
+    let plan = Plan { start: P7.start.wrapping_add(later), volume: volume.into(), ..P7 };
+    plan.packets(KEYS).unwrap().next().unwrap().to_vec()
+}
+
+/// The reports of P7's segment with these volumes, by each receiver; as blocks they are not marked.
+#[test]
+fn a_segment_keeps_the_loudest_and_the_quietest() {
+    for (volumes, volume, quietest) in [
+        (&[0][..], 0, 0),
+        (&[10], 10, 10),
+        (&[63], 63, 63),
+        (&[10, 10, 10], 10, 10),
+        (&[10, 9], 9, 10),
+        (&[10, 11], 10, 11),
+        (&[63, 0], 0, 63),
+        (&[0, 63], 0, 63),
+        (&[3, 20, 41], 3, 41),
+        (&[3, 41, 20], 3, 41),
+        (&[20, 3, 41], 3, 41),
+        (&[20, 41, 3], 3, 41),
+        (&[41, 3, 20], 3, 41),
+        (&[41, 20, 3], 3, 41),
+        (&[20, 3, 41, 20], 3, 41),
+    ] {
+        let packets: Vec<_> = volumes.iter().map(|&volume| first_report(0, volume)).collect();
+        let headers = [0xE5, 0, 0xC0, 4].repeat(volumes.len());
+        let data = volumes.iter().flat_map(|&volume| [5, volume, 1, 144]).collect::<Vec<_>>();
+        let blocks = redundant(&[&headers[..], &[7], &data].concat());
+        let mut tables = [(); 4].map(|()| p7_table());
+        let mut entries = [Entry::default(); 4];
+        for packet in &packets {
+            assert!(tables[0].receive(packet).is_ok());
+            assert_eq!(tables[1].receive_redundant(packet, &mut entries), Ok(1));
+        }
+        let frames: Vec<_> = packets.iter().map(|packet| framed(packet)).collect();
+        assert_eq!(tables[2].receive_capture(&frames.concat()).unwrap().taken, volumes.len());
+        assert_eq!(tables[3].receive_redundant(&blocks, &mut entries), Ok(volumes.len()));
+        for (table, marked) in tables.iter().zip([true, true, true, false]) {
+            let heard = Segment { volume, quietest, marked, ..Segment::default() };
+            assert!(table.segments().eq([Segment { code: 5, duration: 400, ..heard }]));
+            let event = Event { began: marked, ..press(volume, quietest) };
+            assert_eq!(table.events(), Ok(vec![event]), "{volumes:?}");
+            assert_eq!(table.event_at(1), Ok(event));
+        }
+    }
+}
+
+#[test]
+fn a_new_segment_leaves_its_neighbours_their_volumes() {
+    let mut table = p7_table();
+    for (later, volume) in
+        [(0, 5), (0, 50), (2_000, 9), (2_000, 7), (1_000, 30), (1_000, 20), (1_000, 40)]
+    {
+        assert!(table.receive(&first_report(later, volume)).is_ok());
+    }
+    let marked = Segment { code: 5, duration: 400, marked: true, ..Segment::default() };
+    let heard = [(0, 5, 50), (1_000, 20, 40), (2_000, 7, 9)];
+    let heard =
+        heard.map(|(offset, volume, quietest)| Segment { offset, volume, quietest, ..marked });
+    assert!(table.segments().eq(heard));
+}
+
+/// The quietest in the first segment, in the second, in both; one of another key does not count.
+#[test]
+fn an_event_has_the_quietest_of_its_segments() {
+    for (one, two, both) in [
+        ((10, 30), (10, 20), (10, 30)),
+        ((10, 20), (10, 30), (10, 30)),
+        ((10, 30), (5, 30), (5, 30)),
+        ((10, 10), (11, 11), (10, 11)),
+        ((11, 11), (10, 10), (10, 11)),
+        ((0, 0), (63, 63), (0, 63)),
+        ((0, 63), (7, 9), (0, 63)),
+    ] {
+        let segment = |(volume, quietest)| Segment { volume, quietest, ..Segment::default() };
+        let first = Segment { code: 5, duration: 400, marked: true, ..segment(one) };
+        let second = Segment { offset: 400, code: 5, duration: 400, ..segment(two) };
+        let joined = Event { length: 800, ..press(both.0, both.1) };
+        assert_eq!(events(first, second), [joined]);
+        // Begun anew, or of another key, each has its own.
+        let apart = [press(one.0, one.1), Event { start: 400, ..press(two.0, two.1) }];
+        assert_eq!(events(first, Segment { marked: true, ..second }), apart);
+        let other = Event { code: 6, began: false, ..apart[1] };
+        assert_eq!(events(first, Segment { code: 6, ..second }), [apart[0], other]);
+    }
+}
+
+/// A press as it is sent, in three segments: all of it, or no more than is needed.
+#[test]
+fn the_volume_sent_is_the_loudest_and_the_quietest() {
+    for volume in 0..64 {
+        let plan = Plan { volume: volume.into(), length: 1_000, segment_size: 400, ..P7 };
+        let packets: Vec<_> = plan.packets(KEYS).unwrap().collect();
+        assert_eq!(packets.len(), 3 * 3);
+        for arrive in [&[0, 1, 2, 3, 4, 5, 6, 7, 8][..], &[0, 4, 8], &[7, 3, 0, 3]] {
+            let mut table = p7_table();
+            assert!(arrive.iter().all(|&k| table.receive(&packets[k]).is_ok()));
+            let whole = Event { length: 1_000, ended: true, ..press(volume, volume) };
+            assert_eq!(table.events().unwrap(), [whole]);
+            assert!(table.segments().all(|s| (s.volume, s.quietest) == (volume, volume)));
+        }
+    }
+}
+
+/// Both sides of each edge, in each of three places. A quietest above 63 has no room in a table:
+/// it is tried in a segment alone.
+#[test]
+fn the_quietest_ends_at_63_and_is_not_below_the_loudest() {
+    for (volume, quietest, is_valid) in [
+        (0, 0, true),
+        (1, 0, false),
+        (10, 9, false),
+        (10, 10, true),
+        (10, 11, true),
+        (0, 63, true),
+        (63, 62, false),
+        (63, 63, true),
+        (64, 63, false),
+        (64, 0, false),
+        (127, 63, false),
+        (128, 63, false),
+        (192, 63, false),
+        (255, 63, false),
+        (255, 0, false),
+        (74, 11, false),
+        (138, 11, false),
+        (202, 11, false),
+        (0, 64, false),
+        (63, 64, false),
+        (64, 64, false),
+        (10, 74, false),
+        (10, 139, false),
+        (10, 203, false),
+        (0, 127, false),
+        (0, 128, false),
+        (0, 192, false),
+        (0, 255, false),
+        (63, 255, false),
+        (127, 127, false),
+        (128, 128, false),
+        (255, 255, false),
+    ] {
+        let any = Segment { code: 5, duration: 1, volume: 20, quietest: 30, ..Segment::default() };
+        let held = [0, 1, 2].map(|offset| Segment { offset, ..any });
+        for place in 0..3 {
+            let mut segments = held;
+            (segments[place].volume, segments[place].quietest) = (volume, quietest);
+            let made = Table::from_segments(KEYS, 101, P7.ssrc, P7.start, &segments);
+            let said = made.as_ref().map(|table| table.segments().eq(segments));
+            assert_eq!(said, if is_valid { Ok(true) } else { Err(&Refusal::InvalidTable) });
+
+            if quietest > 63 {
+                continue;
+            }
+            let mut table = Table::from_segments(KEYS, 101, P7.ssrc, P7.start, &held).unwrap();
+            table.heard[place] = u32::from(volume) << 24 | u32::from(quietest) << 18 | 1;
+            assert_eq!(table.is_valid(), is_valid, "{volume} and {quietest}");
+            if !is_valid {
+                refused_by_all_calls(&table);
+            }
+            // Above the number held they are not tested.
+            table.head.count = place;
+            assert!(table.is_valid());
+        }
+    }
+}
+
+/// Every call refuses a table that fails the tests, and changes nothing.
+fn refused_by_all_calls(failing: &Table) {
+    let (mut table, packet) = (failing.clone(), first_report(0, 10));
+    let (mut entries, mut list) = ([Entry::from(0xABCD); 2], [press(1, 2); 4]);
+    let refused = Refusal::InvalidTable;
+    assert_eq!(table.receive_counting(&packet), (Err(refused), 0));
+    assert_eq!(table.receive_capture(&framed(&packet)), Err(refused));
+    assert_eq!(table.receive_redundant(&packet, &mut entries), Err(refused));
+    assert_eq!((table.list_into(&mut list), table.event_at(1)), (Err(refused), Err(refused)));
+    let result = sys::event_at_columns(table.head, &table.keys, &table.heard, 1);
+    assert_eq!(result, EventResult { event: Event::default(), refusal: refused.number() });
+    assert_eq!((entries, list), ([Entry::from(0xABCD); 2], [press(1, 2); 4]));
+    assert_eq!(&table, failing);
 }
 
 /// The codes of a text, or the refusal's number.

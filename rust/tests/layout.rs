@@ -12,7 +12,7 @@ use twimbor::{
     CODES_BYTES, Codes, Entry, Event, Head, LONGEST_EVENT, OLDER_REPORTS, OlderReport,
     PACKET_BYTES, PLACES,
 };
-use twimbor::{Plan, REDUNDANT_BYTES, Refusal, Report, Table, Taken};
+use twimbor::{Plan, REDUNDANT_BYTES, Refusal, Report, Segment, Table, Taken};
 
 const HEADER: &str = concat!(env!("CARGO_MANIFEST_DIR"), "/../include/twimbor.h");
 
@@ -81,7 +81,9 @@ fn structs_and_numbers_are_the_headers() {
         payload_type, both_types, redundant_type, ssrc, origin, codes, count
     });
     layout!(file, Table as "twimbor_table" { head, keys, heard });
-    layout!(file, Event as "twimbor_event" { code, start, length, volume, began, ended });
+    layout!(file, Event as "twimbor_event" {
+        code, start, length, volume, quietest, began, ended
+    });
     layout!(file, ReadResult as "twimbor_read_result" { report, refusal });
     layout!(file, CountResult as "twimbor_count_result" { reports, refusal });
     layout!(file, Opened as "twimbor_opened" { table, refusal });
@@ -166,4 +168,73 @@ fn entries_are_read_as_by_the_header() {
     compile(&[path, "-o", program]);
     let printed = Command::new(program).output().unwrap().stdout;
     assert_eq!(String::from_utf8_lossy(&printed), expected);
+}
+
+/// What the header's functions read in the number that a place holds, and what this crate reads;
+/// put back, it is the same number.
+#[test]
+fn segments_are_read_and_put_as_by_the_header() {
+    let fields = [1, 0xFFFF, 1 << 16, 1 << 17, 1 << 18, 63 << 18, 1 << 24, 255 << 24];
+    let volumes = [(0, 63), (10, 9), (10, 10), (10, 11), (63, 63), (64, 63), (74, 11), (255, 63)];
+    let numbers = volumes.map(|(volume, quietest)| volume << 24 | quietest << 18 | 400);
+    let numbers = numbers.into_iter().chain([0, u32::MAX, 0x1234_5678]);
+    let mut calls = String::new();
+    let mut expected = String::new();
+    for heard in fields.into_iter().chain(numbers) {
+        calls += &format!("    say({heard}u);\n");
+        let mut table = Table::open(Codes::KEYS, 101, 7, 0).unwrap();
+        (table.head.count, table.heard[0]) = (1, heard);
+        let segment = table.segments().next().unwrap();
+        let Segment { duration, volume, quietest, ended, marked, .. } = segment;
+        let flags = (u8::from(ended), u8::from(marked));
+        expected += &format!("{duration} {volume} {quietest} {} {} {heard}\n", flags.0, flags.1);
+        let made = Table::from_segments(Codes::KEYS, 101, 7, 0, &[segment]);
+        assert!(quietest <= 63);
+        let is_valid = duration > 0 && volume <= quietest;
+        assert_eq!(made, if is_valid { Ok(table) } else { Err(Refusal::InvalidTable) });
+    }
+    let say = "static void say(uint32_t heard)
+{
+    static twimbor_table read, put;
+    read.head.count = 1;
+    read.heard[0] = heard;
+    twimbor_segment s = twimbor_segment_at(&read, 0);
+    twimbor_set_segment(&put, 0, s);
+    printf(\"%d %d %d %d %d \", s.duration, s.volume, s.quietest, s.ended, s.marked);
+    printf(\"%lu\\n\", (unsigned long)put.heard[0]);
+}";
+    let path = concat!(env!("CARGO_TARGET_TMPDIR"), "/segments.c");
+    let program = concat!(env!("CARGO_TARGET_TMPDIR"), "/segments");
+    let main = format!("int main(void)\n{{\n{calls}}}");
+    fs::write(path, format!("#include \"{HEADER}\"\n#include <stdio.h>\n{say}\n{main}\n")).unwrap();
+    compile(&[path, "-o", program]);
+    let printed = Command::new(program).output().unwrap().stdout;
+    assert_eq!(String::from_utf8_lossy(&printed), expected);
+}
+
+/// Two reports of one segment, of every two volumes: each number stands where the header draws it,
+/// and a louder or a quieter report moves its own field alone.
+#[test]
+fn what_is_heard_stands_where_the_header_draws_it() {
+    for volume in 0..64 {
+        for second in 0..64 {
+            let mut table = Table::open(Codes::KEYS, 101, 7, 1000).unwrap();
+            let mut receive = |volume, duration| {
+                let (payload_type, ssrc, timestamp) = (101, 7, 1000);
+                let report = Report { payload_type, ssrc, timestamp, ..Report::default() };
+                let mut packet = [0; PACKET_BYTES];
+                Report { volume, duration, ..report }.write(Codes::KEYS, &mut packet).unwrap();
+                table.receive(&packet).unwrap();
+                table.heard[0]
+            };
+            assert_eq!(receive(volume, 400), volume << 24 | volume << 18 | 400);
+            let (loudest, quietest) = (volume.min(second), volume.max(second));
+            assert_eq!(receive(second, 1), loudest << 24 | quietest << 18 | 400);
+            let [volume, quietest] = [loudest, quietest].map(|number| number as u8);
+            let segment = Segment { volume, quietest, duration: 400, ..Segment::default() };
+            assert!(table.segments().eq([segment]));
+            let made = Table::from_segments(Codes::KEYS, 101, 7, 1000, &[segment]);
+            assert_eq!(made, Ok(table));
+        }
+    }
 }

@@ -39,7 +39,8 @@ class Recorded(unittest.TestCase):
                 text = ""
                 for event in stream["events"]:
                     start = (event["start"] + stream["origin"] - session.origin) % 2**32
-                    text += f"start={start}\nkey={event['code']}\nunits={event['length']}\nvolume={event['volume']}\n"
+                    text += f"start={start}\nkey={event['code']}\nunits={event['length']}\n"
+                    text += f"volume={event['volume']}\nquietest={event['quietest']}\n"
                     text += f"began={int(event['began'])}\nended={int(event['ended'])}\n"
                 text += f"events={len(stream['events'])}\ntaken={stream['taken']}\n"
                 self.assertEqual(text, lists[capture][: len(text)], capture)

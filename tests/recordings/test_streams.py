@@ -4,7 +4,7 @@ import random
 import struct
 import unittest
 
-from capturing import commands, paper, sdp, streams
+from capturing import commands, paper, sdp, sending, streams
 from made import pcap
 from trying import DATA, EXPECTED, IPV4, TEMPORARY, events, run
 
@@ -137,6 +137,22 @@ class Streams(unittest.TestCase):
             self.assertEqual(sdp.clock_rates(text), expected)
         text = b"a=rtpmap:100 red/8000/1\na=rtpmap:101 telephone-event/8000\na=rtpmap:102 redundant/8000\na=rtpmap:63 RED/48000/2\n"
         self.assertEqual(sdp.clock_rates(text, b"red"), {100: {8000}, 63: {48000}})
+
+    def test_fading_keys(self):
+        path = TEMPORARY / "fading.pcap"
+        path.write_bytes(pcap(map(ipv4_packet, sending.fading(paper.Session(101, 7, 0))), 101))
+        found = json.loads(run(*events(path, "--json"))[1])["streams"][0]["events"]
+        levels = [(event["volume"], event["quietest"]) for event in found]
+        self.assertEqual(levels, [(10, 10), (10, 30), (10, 30), (5, 40), (0, 63), (0, 12), (20, 30), (20, 30), (7, 40)])
+        status, out, err = run(*events(path))
+        self.assertEqual((status, err), (0, ""))
+        for row in (
+            "  key   start units  length units    volume  quietest",
+            "  5               0          1000  -10 dBm0  -10 dBm0",
+            "  5           10000          1000  -10 dBm0  -30 dBm0",
+            "  5           40000          1000    0 dBm0  -63 dBm0",
+        ):
+            self.assertIn(row + "\n", out.decode())
 
     def test_refusals_in_words(self):
         many = self.datagrams("many")

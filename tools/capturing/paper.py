@@ -87,10 +87,11 @@ def receive(session, table, packet):
     if place == len(table) or table[place]["pair"] != (offset, code):
         if len(table) == ROOM:
             return 11
-        table.insert(place, dict(pair=(offset, code), duration=0, volume=63, e=False, m=False))
+        table.insert(place, dict(pair=(offset, code), duration=0, volume=63, quietest=0, e=False, m=False))
     segment = table[place]
     segment["duration"] = max(segment["duration"], duration)
     segment["volume"] = min(segment["volume"], flags & 0x3F)
+    segment["quietest"] = max(segment["quietest"], flags & 0x3F)
     segment["e"] |= flags >= 0x80
     segment["m"] |= packet[1] >= 0x80
     return 0
@@ -103,10 +104,11 @@ def events_of(table):
         offset, code = segment["pair"]
         event, end = nearest.get(code, (None, None))
         if segment["m"] or offset != end:
-            event = dict(start=offset, key=code, units=0, volume=63, began=int(segment["m"]), ended=0)
+            event = dict(start=offset, key=code, units=0, volume=63, quietest=0, began=int(segment["m"]), ended=0)
             events.append(event)
         event["units"] += segment["duration"]
         event["volume"] = min(event["volume"], segment["volume"])
+        event["quietest"] = max(event["quietest"], segment["quietest"])
         event["ended"] = int(segment["e"])
         nearest[code] = event, None if segment["e"] else offset + segment["duration"]
     return events

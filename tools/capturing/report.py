@@ -29,6 +29,7 @@ def report(stream, clock_rate, events, answers):
                 "start_ms": milliseconds(event["start"], clock_rate),
                 "length_ms": milliseconds(event["units"], clock_rate),
                 "volume": event["volume"],
+                "quietest": event["quietest"],
                 "began": bool(event["began"]),
                 "ended": bool(event["ended"]),
             }
@@ -76,12 +77,12 @@ def table_of(report):
     lines = [
         f"{report['source']} > {report['destination']}  SSRC {report['ssrc']}  payload type {report['payload_type']}  "
         + (f"{rate} units a second" if rate else "clock rate unknown"),
-        f"  key  {'start ' + unit:>{width}}  {'length ' + unit:>{width}}  {'volume':>8}",
+        f"  key  {'start ' + unit:>{width}}  {'length ' + unit:>{width}}  {'volume':>8}  {'quietest':>8}",
     ]
     for event in report["events"]:
         start, length = event["start" + suffix], event["length" + suffix]
         unheard = [what for heard, what in ((event["began"], "first report"), (event["ended"], "end")) if not heard]
-        row = f"  {event['key']:3}  {start:{width}.0f}  {length:{width}.0f}  {-event['volume']:3} dBm0"
+        row = f"  {event['key']:3}  {start:{width}.0f}  {length:{width}.0f}  {-event['volume']:3} dBm0  {-event['quietest']:3} dBm0"
         lines.append(row + (f"  {' and '.join(unheard)} not heard" if unheard else ""))
     refused = sum(refusal["packets"] for refusal in report["refused"])
     counts = f"{counted(len(report['events']), 'event')} from {counted(report['taken'], 'report')}"

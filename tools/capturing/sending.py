@@ -65,7 +65,7 @@ def sent(session, events):
 
 
 def found(session, packets):
-    """The events that a table lists after some packets, each as start, code, length, volume, began, ended."""
+    """The events that a table lists after some packets, each as start, code, length, volume, quietest, began, ended."""
     table = []
     for packet in packets:
         receive(session, table, packet)
@@ -176,13 +176,37 @@ def joined(session):
         plans = sent(session, [(far + start, code, 10, length, 400, SEGMENT) for start, code, length, _ in presses])
         for packets, (*_, what) in zip(plans, presses):
             arrived += [packet for packet in packets if not lost[what](packet)]
-        events += [(far + start, code, length, 10, began, ended) for start, code, length, began, ended in listed]
+        events += [(far + start, code, length, 10, 10, began, ended) for start, code, length, began, ended in listed]
+    assert found(session, arrived) == events
+    return arrived
+
+
+def fading(session):
+    """What arrives of presses of 1,000 units whose level changes while the key is down, and of one that is steady."""
+    rows = [  # segment size; the reports' volumes in turn, the last one for all that are left; the volume and quietest found
+        (SEGMENT, [10], (10, 10)),
+        (SEGMENT, [10, 11, 20, 30], (10, 30)),
+        (SEGMENT, [30, 20, 11, 10], (10, 30)),
+        (SEGMENT, [20, 5, 40, 20], (5, 40)),
+        (SEGMENT, [0, 63], (0, 63)),
+        (SEGMENT, [10, 12, 0x40 | 11, 0x40], (0, 12)),  # R, which is ignored
+        (500, [30, 30, 30, 30, 20], (20, 30)),  # four reports of each segment: the quietest in the first one
+        (500, [20, 20, 20, 20, 30], (20, 30)),
+        (400, [7, 9, 8, 40, 30, 20, 12], (7, 40)),  # three reports of each segment: in the second of three
+    ]
+    arrived, events = [], []
+    plans = sent(session, [(10000 * i, 5, 0, 1000, 400, size) for i, (size, *_) in enumerate(rows)])
+    for i, (packets, (_, volumes, listed)) in enumerate(zip(plans, rows)):
+        for k, packet in enumerate(packets):
+            level = volumes[min(k, len(volumes) - 1)]
+            arrived.append(packet[:13] + bytes([packet[13] | level]) + packet[14:])
+        events.append((10000 * i, 5, 1000, *listed, 1, 1))
     assert found(session, arrived) == events
     return arrived
 
 
 def edges():
-    """Captures and sessions at the edges of the files' form, of packing and of joining, in the session of row P7."""
+    """Captures and sessions at the edges of the files' form, of packing, joining and fading, in the session of row P7."""
     session = Session(101, 0x11223344, 2**32 - 16)
     packets = plan(session, 65535, 0, 5, 10, 400, 400, SEGMENT)
     one, two, three = map(framed, packets)
@@ -192,6 +216,7 @@ def edges():
         "length_cut": (session, one + two + three + b"\x00"),
         "packed": (session, one + b"".join(map(framed, packings(session, packets[0]))) + two + three),
         "joined": (session, b"".join(map(framed, joined(session)))),
+        "fading": (session, b"".join(map(framed, fading(session)))),
         "session_bad": (session._replace(pt=128), one + two + three),
         "session_missing": (None, one + two + three),
     }
@@ -204,7 +229,7 @@ def make(folder):
         plans = sent(session, events)
         for order, packets in ((name, sum(plans, [])), (name + "--network", network(name, session, plans))):
             write_files(folder, order, session, b"".join(map(framed, packets)))
-            listed = [(start, code, length, volume, 1, 1) for start, code, volume, length, *_ in events]
+            listed = [(start, code, length, volume, volume, 1, 1) for start, code, volume, length, *_ in events]
             # "many" has more events than there is room for: which are found is a matter of order.
             assert name == "many" or found(session, packets) == listed
     for name, (session, capture) in edges().items():

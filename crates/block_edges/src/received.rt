@@ -9,7 +9,7 @@ fn one_held() -> Table {
     let mut keys = t.keys;
     let mut heard = t.heard;
     keys[0] = 5;
-    heard[0] = 0x28_0190;
+    heard[0] = 0xA28_0190;
     head.count = 1;
     t.head = head;
     t.keys = keys;

@@ -7,7 +7,7 @@ use model::Table;
 
 const LISTS: usize = 15;
 
-// Three segments (offset, code, duration, volume, E, M), of which those with a duration are held.
+// Three segments (offset, code, duration, volume, E, M), of which those with a duration are held. The volume is also the quietest.
 const LIST: [u32; 270] = [
     0, 5, 65535, 10, 0, 1, 65535, 5, 1, 10, 1, 0, 0, 0, 0, 0, 0, 0,          // P9
     0, 5, 65535, 10, 1, 1, 65535, 5, 1, 10, 1, 0, 0, 0, 0, 0, 0, 0,          // P10
@@ -48,8 +48,9 @@ fn heard_at(at: usize) -> u32 {
     heard(
         list_cell(at + 2),
         list_cell(at + 3),
-        list_cell(at + 4) == 1,
-        list_cell(at + 5) == 1,
+        list_cell(at + 3),
+        list_cell(at + 4),
+        list_cell(at + 5),
     )
 }
 
@@ -89,6 +90,7 @@ fn event(v: Event) {
     show::number(v.start);
     show::number(v.length);
     show::number(v.volume as u32);
+    show::number(v.quietest as u32);
     show::number(v.began as u32);
     show::number(v.ended as u32);
     show::answer(0);

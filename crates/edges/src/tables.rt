@@ -3,7 +3,6 @@ use super::packets::size;
 use model::Received;
 use model::Report;
 use model::Table;
-use segment::heard_of;
 use segment::key_of;
 
 const OPENS: usize = 4;
@@ -182,7 +181,8 @@ fn segment(key: u64, heard: u32) {
     show::number((key / 256 % 0x1_0000_0000) as u32);
     show::number((key % 256) as u32);
     show::number(heard % 65536);
-    show::number(heard / 0x4_0000);
+    show::number(heard / 0x100_0000);
+    show::number(heard / 0x4_0000 % 64);
     show::number(heard / 0x1_0000 % 2);
     show::number(heard / 0x2_0000 % 2);
     show::name(b"\n");
@@ -231,34 +231,41 @@ fn rooms() {
     show::name(b"\n");
 }
 
-const TESTS: usize = 20;
+const TESTS: usize = 27;
 
-// Number held, payload type, then offset, code, duration and volume of the second segment; the first is (16, 5, 1, 63).
-const TEST: [u32; 120] = [
-    2, 127, 16, 6, 65535, 63,
-    2, 128, 16, 6, 65535, 63,
-    2, 127, 0x7FFFFFFF, 0, 1, 0,
-    2, 127, 0x80000000, 0, 1, 0,
-    2, 127, 16, 5, 1, 0,                            // the same pair
-    2, 127, 16, 4, 1, 0,                            // a lower code at the same offset
-    2, 127, 15, 9, 1, 0,                            // a lower offset
-    2, 127, 17, 0, 1, 0,
-    2, 127, 16, 15, 1, 0,
-    2, 127, 16, 16, 1, 0,
-    2, 127, 16, 6, 0, 0,
-    2, 127, 16, 6, 1, 63,
-    2, 127, 16, 6, 1, 64,
-    1, 127, 15, 16, 0, 64,                          // places above the number held are not tested
-    0, 127, 15, 16, 0, 64,
-    3, 127, 16, 6, 1, 0,                            // a third place of zeros
-    128, 127, 16, 6, 1, 0,
-    129, 127, 16, 6, 1, 0,
-    4000000000, 127, 16, 6, 1, 0,
-    0, 128, 16, 6, 1, 0,
+// Number held, payload type, then offset, code, duration, volume and quietest of the second segment; the first is (16, 5, 1, 63, 63).
+const TEST: [u32; 189] = [
+    2, 127, 16, 6, 65535, 63, 63,
+    2, 128, 16, 6, 65535, 63, 63,
+    2, 127, 0x7FFFFFFF, 0, 1, 0, 0,
+    2, 127, 0x80000000, 0, 1, 0, 0,
+    2, 127, 16, 5, 1, 0, 0,                         // the same pair
+    2, 127, 16, 4, 1, 0, 0,                         // a lower code at the same offset
+    2, 127, 15, 9, 1, 0, 0,                         // a lower offset
+    2, 127, 17, 0, 1, 0, 0,
+    2, 127, 16, 15, 1, 0, 0,
+    2, 127, 16, 16, 1, 0, 0,
+    2, 127, 16, 6, 0, 0, 0,
+    2, 127, 16, 6, 0, 0, 1,                         // no duration, and volumes that differ
+    2, 127, 16, 6, 1, 10, 10,
+    2, 127, 16, 6, 1, 10, 9,                        // the quietest below the loudest
+    2, 127, 16, 6, 1, 63, 0,
+    2, 127, 16, 6, 1, 0, 63,
+    2, 127, 16, 6, 1, 64, 63,
+    2, 127, 16, 6, 1, 64, 0,
+    2, 127, 16, 6, 1, 255, 63,
+    2, 127, 16, 6, 65535, 255, 0,
+    1, 127, 15, 16, 0, 64, 63,                      // places above the number held are not tested
+    0, 127, 15, 16, 0, 64, 63,
+    3, 127, 16, 6, 1, 0, 0,                         // a third place of zeros
+    128, 127, 16, 6, 1, 0, 0,
+    129, 127, 16, 6, 1, 0, 0,
+    4000000000, 127, 16, 6, 1, 0, 0,
+    0, 128, 16, 6, 1, 0, 0,
 ];
 
 fn test_cell(at: usize) -> u32 {
-    if 120 <= at {
+    if 189 <= at {
         return 0;
     }
     TEST[at]
@@ -268,17 +275,14 @@ fn byte(n: u32) -> u8 {
     (n % 256) as u8
 }
 
-fn half(n: u32) -> u16 {
-    (n % 65536) as u16
-}
-
 // A segment's two numbers, of fields as the rows have them.
 pub fn key(offset: u32, code: u32) -> u64 {
     key_of(offset, byte(code))
 }
 
-pub fn heard(duration: u32, volume: u32, ended: bool, marked: bool) -> u32 {
-    heard_of(half(duration), byte(volume), ended, marked)
+pub fn heard(duration: u32, volume: u32, quietest: u32, ended: u32, marked: u32) -> u32 {
+    let flags = ended % 2 + 2 * (marked % 2);
+    duration % 65536 + 0x1_0000 * (flags + 4 * (quietest % 64 + 64 * (volume % 256)))
 }
 
 // A table that no call made.
@@ -286,13 +290,13 @@ fn made(i: usize) -> Table {
     let o = table::open(codes::keys(), 0, 7, 0);
     let mut t = o.table;
     if i < TESTS {
-        let at = i * 6;
+        let at = i * 7;
         t.head.count = size(test_cell(at));
         t.head.payload_type = byte(test_cell(at + 1));
         t.keys[0] = key(16, 5);
-        t.heard[0] = heard(1, 63, false, false);
+        t.heard[0] = heard(1, 63, 63, 0, 0);
         t.keys[1] = key(test_cell(at + 2), test_cell(at + 3));
-        t.heard[1] = heard(test_cell(at + 4), test_cell(at + 5), false, false);
+        t.heard[1] = heard(test_cell(at + 4), test_cell(at + 5), test_cell(at + 6), 0, 0);
     }
     t
 }
@@ -301,7 +305,7 @@ fn test_row(i: usize) {
     if TESTS <= i {
         return;
     }
-    let at = i * 6;
+    let at = i * 7;
     show::name(b"table");
     show::number(test_cell(at));
     show::number(test_cell(at + 1));
@@ -309,6 +313,7 @@ fn test_row(i: usize) {
     show::number(test_cell(at + 3));
     show::number(test_cell(at + 4));
     show::number(test_cell(at + 5));
+    show::number(test_cell(at + 6));
     let t = made(i);
     let head = t.head;
     let mut keys = t.keys;

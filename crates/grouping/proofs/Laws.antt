@@ -1,5 +1,5 @@
 -- Each way through the definitions of Places, as a law over two columns and their places.
-use Prim.Native.Nat.{ℕ, suc, _+_, _-_, _*_, _≤_, _<_, _%_, min}
+use Prim.Native.Nat.{ℕ, suc, _+_, _-_, _*_, _≤_, _<_, _%_, min, max}
 use mathlib.Core.Path.{_≡_, refl, sym, _∙_, ap, ap₂}
 use mathlib.Core.Bool.{Bool, true, false, not, cond}
 use mathlib.Core.List.{List, [], _∷_}
@@ -13,9 +13,8 @@ use Rattle.model.specs.declared.Segment.{Segment}
 use Rattle.model.specs.declared.Head.{Head}
 use Rattle.model.specs.declared.Event.{Event}
 use Rattle.model.specs.Table.{segmentAt, segmentsFrom, tableOf, valid}
-use Rattle.model.specs.Events.{units, loudest, lastEnded, eventOf, continues, continuesNearest, continuing, eventsFrom}
+use Rattle.model.specs.Events.{units, loudest, quietest, lastEnded, eventOf, continues, continuesNearest, continuing, eventsFrom}
 use Rattle.model.proofs.Tables.{Passed, tests-passed, valid-then, valid-from}
-use Rattle.segment.specs.Widths.{Narrow}
 use Rattle.grouping.specs.Places.{InRanges, earlier, begins, later, lengthened, eventFrom, eventsIn}
 
 -- ONE SEGMENT AND THE NEXT
@@ -26,15 +25,31 @@ by-end p s unmarked unended = rw (unmarked, unended)
 -- AN EVENT AND ONE SEGMENT MORE
 
 pub one : (s : Segment)
-    → record { code = s .code; start = s .offset; length = s .duration; volume = s .volume; began = s .marked; ended = s .ended }
+    → record {
+      code = s .code;
+      start = s .offset;
+      length = s .duration;
+      volume = s .volume;
+      quietest = s .quietest;
+      began = s .marked;
+      ended = s .ended;
+    }
     ≡ eventOf s []
-unfolding units loudest lastEnded
+unfolding units loudest quietest lastEnded
 one s = refl
 
-pub more : (v : Event) (s : Segment) (m : ℕ) → m ≡ min (v .volume) (s .volume)
-    → record { code = v .code; start = v .start; length = v .length + s .duration; volume = m; began = v .began; ended = s .ended }
+pub more : (v : Event) (s : Segment) (m : ℕ) → m ≡ min (v .volume) (s .volume) → (q : ℕ) → q ≡ max (v .quietest) (s .quietest)
+    → record {
+      code = v .code;
+      start = v .start;
+      length = v .length + s .duration;
+      volume = m;
+      quietest = q;
+      began = v .began;
+      ended = s .ended;
+    }
     ≡ lengthened v s
-more v s m e = rw e
+more v s m e q f = rw (e, f)
 
 -- an event that segments continue, one after another
 abbrev pub grown : Event → List Segment → Event
@@ -48,19 +63,29 @@ grown-by : (v : Event) (s : Segment) (ts : List Segment)
       start = v .start;
       length = v .length + units s ts;
       volume = min (v .volume) (loudest s ts);
+      quietest = max (v .quietest) (quietest s ts);
       began = v .began;
       ended = lastEnded s ts;
     }
-unfolding units loudest lastEnded
+unfolding units loudest quietest lastEnded
 grown-by v s [] = refl
 grown-by v s (u ∷ us) =
     let l : v .length + s .duration + units u us ≡ v .length + (s .duration + units u us) = omega arith in
     let m : min (min (v .volume) (s .volume)) (loudest u us) ≡ min (v .volume) (min (s .volume) (loudest u us)) = omega arith in
+    let q : max (max (v .quietest) (s .quietest)) (quietest u us) ≡ max (v .quietest) (max (s .quietest) (quietest u us)) = omega arith in
     grown-by (lengthened v s) u us
-    ∙ (λ i. record { code = v .code; start = v .start; length = l i; volume = m i; began = v .began; ended = lastEnded u us })
+    ∙ (λ i. record {
+      code = v .code;
+      start = v .start;
+      length = l i;
+      volume = m i;
+      quietest = q i;
+      began = v .began;
+      ended = lastEnded u us;
+    })
 
 grown-alone : (s : Segment) (ts : List Segment) → grown (eventOf s []) ts ≡ eventOf s ts
-unfolding units loudest lastEnded
+unfolding units loudest quietest lastEnded
 grown-alone s [] = refl
 grown-alone s (t ∷ ts) = grown-by (eventOf s []) t ts
 
@@ -82,16 +107,16 @@ module _ (keys heard : List ℕ) where
   -- THE PLACES
 
   pub in-ranges : (head : Head) → valid (tableOf head keys heard) ≡ true → InRanges keys heard (head .count)
-  in-ranges head v = record { few = p .few; each = narrow }
+  in-ranges head v = record { few = p .few; each = near }
     where
       p : Passed (tableOf head keys heard)
       p = tests-passed (tableOf head keys heard) v
 
-      narrow : (i : ℕ) → i < head .count → Narrow (getD keys i 0) (getD heard i 0)
-      narrow i h =
+      near : (i : ℕ) → i < head .count → getD keys i 0 < 0x100_0000_0000
+      near i h =
           let s = valid-then (head .codes) (segmentAt keys heard i)
           (valid-from (head .codes) keys heard (head .count) 0 (p .each) i (omega arith) (omega arith)) in
-          record { offset = omega (arith, s .offset); volume = omega (arith, s .volume) }
+          omega (arith, s .offset)
 
   pub fewer : (n i : ℕ) → InRanges keys heard n → i < n → InRanges keys heard (i + 1)
   fewer n i r h = record { few = omega (arith, r .few); each = λ j l. r .each j (omega arith) }

@@ -1,13 +1,12 @@
 -- The events of two columns by the places of their segments: what the functions that go from place to place answer. They
 -- see the columns and how many places are held; a table's head plays no part.
-use Prim.Native.Nat.{ℕ, zero, suc, _+_, _-_, _≤_, _<_, min}
+use Prim.Native.Nat.{ℕ, zero, suc, _+_, _-_, _≤_, _<_, min, max}
 use mathlib.Core.Bool.{Bool, not}
 use mathlib.Core.List.{List, [], _∷_}
 use lib.ListN.{getD}
 use Rattle.model.specs.declared.Segment.{Segment}
 use Rattle.model.specs.declared.Event.{Event}
 use Rattle.model.specs.Table.{segmentAt, segmentsFrom}
-use Rattle.segment.specs.Widths.{Narrow}
 use Rattle.model.specs.Events.{eventOf, continuesNearest, continuing, eventsOf}
 
 -- an event that one segment more continues
@@ -17,15 +16,16 @@ lengthened v s = record {
   start = v .start;
   length = v .length + s .duration;
   volume = min (v .volume) (s .volume);
+  quietest = max (v .quietest) (s .quietest);
   began = v .began;
   ended = s .ended;
 }
 
 module _ (keys heard : List ℕ) where
-  -- n places, at most 128, and the fields of the segment at each as wide as their types
+  -- n places, at most 128, and the offset of the segment at each as wide as its type
   pub record InRanges (n : ℕ) : Type 0 where
     pub few : n ≤ 128
-    pub each : (i : ℕ) → i < n → Narrow (getD keys i 0) (getD heard i 0)
+    pub each : (i : ℕ) → i < n → getD keys i 0 < 0x100_0000_0000
 
   -- the segments before place i, nearest first
   unfoldable pub earlier : ℕ → List Segment

@@ -8,6 +8,7 @@ use super::segments::continues;
 use super::segments::segment_at;
 use model::Event;
 use model::Segment;
+use segment::larger;
 use segment::smaller;
 
 // The event of one segment that nothing continues.
@@ -19,6 +20,7 @@ fn alone(first: Segment) -> Event
         start: first.offset,
         length: first.duration as u32,
         volume: first.volume,
+        quietest: first.quietest,
         began: first.marked,
         ended: first.ended,
     }
@@ -34,6 +36,7 @@ fn lengthened(v: Event, next: Segment) -> Event
         start: v.start,
         length: v.length + (next.duration as u32),
         volume: smaller(v.volume as u32, next.volume as u32) as u8,
+        quietest: larger(v.quietest as u32, next.quietest as u32) as u8,
         began: v.began,
         ended: next.ended,
     }

@@ -15,7 +15,7 @@ struct Listed {
     end: usize,
 }
 
-// Room for 128 events of 6 lines and 5 lines more, of 32 bytes each at the most: 24,736 bytes.
+// Room for 128 events of 7 lines and 5 lines more, of 32 bytes each at the most: 28,832 bytes.
 fn buffer() -> [u8; 32768]
     ensures { λ r. ⌜ 32768 ≡ length r ⌝ }
 {
@@ -99,7 +99,7 @@ fn put_digits(b: &mut [u8], at: usize, digits: &[u8; 20], k: usize) -> usize
 // One line: a name and a number, which has at most 20 digits.
 fn line(b: &mut [u8], at: usize, name: &[u8], n: u64) -> usize
     requires { ⌜ at + 32 ≤ length (now b) ⌝ }
-    requires { ⌜ length (now name) ≤ 8 ⌝ }
+    requires { ⌜ length (now name) ≤ 9 ⌝ }
     ensures { λ r. ⌜ Puts 32 at (now (b .entry)) r (now (b .exit)) ⌝ }
 {
     let mut digits = [0u8; 20];
@@ -119,17 +119,18 @@ fn press(b: &mut [u8], at: usize, v: Event) -> usize
 }
 
 fn heard_of(b: &mut [u8], at: usize, v: Event) -> usize
-    requires { ⌜ at + 96 ≤ length (now b) ⌝ }
-    ensures { λ r. ⌜ Puts 96 at (now (b .entry)) r (now (b .exit)) ⌝ }
+    requires { ⌜ at + 128 ≤ length (now b) ⌝ }
+    ensures { λ r. ⌜ Puts 128 at (now (b .entry)) r (now (b .exit)) ⌝ }
 {
     let volume = line(b, at, b"volume=", v.volume as u64);
-    let began = line(b, volume, b"began=", v.began as u64);
+    let quietest = line(b, volume, b"quietest=", v.quietest as u64);
+    let began = line(b, quietest, b"began=", v.began as u64);
     line(b, began, b"ended=", v.ended as u64)
 }
 
 fn event(b: &mut [u8], at: usize, v: Event) -> usize
-    requires { ⌜ at + 192 ≤ length (now b) ⌝ }
-    ensures { λ r. ⌜ Puts 192 at (now (b .entry)) r (now (b .exit)) ⌝ }
+    requires { ⌜ at + 224 ≤ length (now b) ⌝ }
+    ensures { λ r. ⌜ Puts 224 at (now (b .entry)) r (now (b .exit)) ⌝ }
 {
     let pressed = press(b, at, v);
     heard_of(b, pressed, v)
@@ -137,8 +138,8 @@ fn event(b: &mut [u8], at: usize, v: Event) -> usize
 
 // The events one by one, until a number is refused. A table has at most 128.
 fn events<'a>(b: &mut [u8], head: Head, keys: &'a [u64; 128], heard: &'a [u32; 128]) -> Listed
-    requires { ⌜ 24576 ≤ length (now b) ⌝ }
-    ensures { λ r. ⌜ Puts 24576 0 (now (b .entry)) (r .end) (now (b .exit)) ⌝ }
+    requires { ⌜ 28672 ≤ length (now b) ⌝ }
+    ensures { λ r. ⌜ Puts 28672 0 (now (b .entry)) (r .end) (now (b .exit)) ⌝ }
 {
     let mut k = 0u32;
     let mut end = 0usize;
@@ -170,8 +171,8 @@ fn counted(b: &mut [u8], at: usize, c: Counts) -> usize
 
 // The whole list, and where it ends.
 fn list<'a>(b: &mut [u8], c: SoFar, keys: &'a [u64; 128], heard: &'a [u32; 128]) -> usize
-    requires { ⌜ 24736 ≤ length (now b) ⌝ }
-    ensures { λ r. ⌜ Puts 24736 0 (now (b .entry)) r (now (b .exit)) ⌝ }
+    requires { ⌜ 28832 ≤ length (now b) ⌝ }
+    ensures { λ r. ⌜ Puts 28832 0 (now (b .entry)) r (now (b .exit)) ⌝ }
 {
     let found = events(b, c.head, keys, heard);
     let numbered = line(b, found.end, b"events=", found.events as u64);

@@ -78,6 +78,7 @@ pub record SaidBy (s r : Segment) : Type 0 where
   pub code : r .code ≡ s .code
   pub duration : r .duration ≡ s .duration
   pub volume : r .volume ≡ s .volume
+  pub quietest : r .quietest ≡ s .quietest
   pub ended : r .ended ≡ s .ended
   pub marked : r .marked ≡ true → s .marked ≡ true
 
@@ -88,6 +89,7 @@ says-too x y = record {
   some = omega (arith, x .some, y .duration);
   duration = omega (arith, x .duration, y .duration);
   volume = y .volume ∙ x .volume;
+  quietest = y .quietest ∙ x .quietest;
   ended = λ e. let k = x .ended (sym (y .ended) ∙ e) in (k .0, y .duration ∙ k .1);
   marked = λ e. x .marked (y .marked e);
 }
@@ -122,12 +124,12 @@ module _ (t : Table) (es : List Sent) (sizes : Sizes t es) (fits : FitsTypes t e
   -- and a copy as the same, but for the mark
   copy-heard : (a : Arrival) → SaidBy (heardBy t a) (heardBy t (unmarked a))
   unfolding heardBy
-  copy-heard a = record { offset = refl; code = refl; duration = refl; volume = refl; ended = refl; marked = λ e. absurd (false≢true e) }
+  copy-heard a = record { offset = refl; code = refl; duration = refl; volume = refl; quietest = refl; ended = refl; marked = λ e. absurd (false≢true e) }
 
   pub said-by : (a : Arrival) (e : Sent) (k : ℕ) → OneOf es t e k → (a ≡ sentArrival t e k) ⊎ (a ≡ unmarked (sentArrival t e k))
       → SaidBy (said t e k) (heardBy t a)
   said-by a e k o (inl q) =
-      rw (q, heard-sent e k o) (record { offset = refl; code = refl; duration = refl; volume = refl; ended = refl; marked = λ x. x })
+      rw (q, heard-sent e k o) (record { offset = refl; code = refl; duration = refl; volume = refl; quietest = refl; ended = refl; marked = λ x. x })
   said-by a e k o (inr q) = rw (q, ← (heard-sent e k o)) (copy-heard (sentArrival t e k))
 
   pub told-sent : (a : Arrival) → SentReport es t a → ToldOf (heardBy t a)

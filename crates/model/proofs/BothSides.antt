@@ -1,6 +1,6 @@
 -- Both sides of each range and of each refusal that no theorem speaks of, computed from the definitions: plans, written
--- reports, opening, the event at a number and the list. Beside each row stands all that the call tells and leaves.
-use Prim.Native.Nat.{ℕ}
+-- reports, opening, volumes held, the event at a number and the list. Beside each row stands all that the call tells and leaves.
+use Prim.Native.Nat.{ℕ, _+_, _*_}
 use mathlib.Core.Path.{_≡_, refl}
 use mathlib.Core.Bool.{Bool, true, false}
 use mathlib.Core.List.{List, [], _∷_, map}
@@ -9,6 +9,7 @@ use Rattle.model.specs.declared.Codes.{Codes}
 use Rattle.model.specs.declared.Report.{Report}
 use Rattle.model.specs.declared.Plan.{Plan}
 use Rattle.model.specs.declared.Event.{Event}
+use Rattle.model.specs.declared.Segment.{Segment}
 use Rattle.model.specs.declared.Table.{Table}
 use Rattle.model.specs.declared.Listed.{Listed}
 use Rattle.model.specs.Codes.{isIn, emptySet, theKeys}
@@ -17,10 +18,10 @@ use Rattle.model.specs.declared.WriteAnswer.the-variants as writeAnswer
 use Rattle.model.specs.declared.CountAnswer.the-variants as countAnswer
 use Rattle.model.specs.declared.EventAnswer.the-variants as eventAnswer
 use Rattle.model.specs.Packet.{packetOf, reportInRange, write}
-use Rattle.model.specs.Plan.{cutFrom, interim, reportsOfAll, markFirst, allOnWire, reports, reportAt, reportCount, writeReport}
+use Rattle.model.specs.Plan.{segment, cutFrom, interim, reportsOfAll, markFirst, allOnWire, reports, reportAt, reportCount, writeReport}
 use Rattle.model.specs.Segments.{rising}
-use Rattle.model.specs.Table.{segmentsFrom, opened, allValid, valid}
-use Rattle.model.specs.Events.{units, loudest, lastEnded, continuesNearest, continuing, eventsFrom}
+use Rattle.model.specs.Table.{segmentsFrom, opened, validSegment, allValid, valid}
+use Rattle.model.specs.Events.{units, loudest, quietest, lastEnded, continuesNearest, continuing, eventsFrom}
 use Rattle.model.specs.List.{eventAt, list}
 
 -- PLANS
@@ -158,6 +159,42 @@ last = record { «from_0» = 0; «from_64» = 0; «from_128» = 0; «from_192» 
 pub opened-for-255 : opened last 127 7 9 ≡ record { table = zeros last 127 7 9; refusal = 0 }
 opened-for-255 = refl
 
+-- VOLUMES HELD
+
+-- a table with one segment, of this volume and this quietest; a quietest of 64 has no place there
+abbrev of-volumes : ℕ → ℕ → Table
+of-volumes loud quiet = record {
+  head = record { «payload_type» = 127; «both_types» = 0; «redundant_type» = 0; ssrc = 7; origin = 16; codes = theKeys; count = 1 };
+  keys = 5 ∷ [];
+  heard = (0x100_0000 * loud + 0x4_0000 * quiet + 400) ∷ [];
+}
+
+abbrev volumes : List ((ℕ × ℕ) × Bool)
+volumes =
+    ((0, 0), true)
+    ∷ ((10, 10), true)
+    ∷ ((10, 9), false)
+    ∷ ((0, 63), true)
+    ∷ ((63, 63), true)
+    ∷ ((64, 63), false)
+    ∷ []
+
+pub volumes-tested : map (λ row. valid (of-volumes (row .0 .0) (row .0 .1))) volumes ≡ map (λ row. row .1) volumes
+unfolding isIn valid rising allValid segmentsFrom
+volumes-tested = refl
+
+-- so it is asked of segments
+abbrev segments : List (Segment × Bool)
+segments =
+    (segment 0 5 400 63 false true, true)
+    ∷ (segment 0 5 400 64 false true, false)
+    ∷ (record { offset = 0; code = 5; duration = 400; volume = 10; quietest = 64; ended = false; marked = true }, false)
+    ∷ []
+
+pub segments-tested : map (λ row. validSegment theKeys (row .0)) segments ≡ map (λ row. row .1) segments
+unfolding isIn
+segments-tested = refl
+
 -- THE EVENT AT A NUMBER, AND THE LIST
 
 -- two presses of key 5, of which the second has no M; and the same with a payload type that fails the tests
@@ -165,11 +202,11 @@ abbrev table : ℕ → Table
 table type = record {
   head = record { «payload_type» = type; «both_types» = 0; «redundant_type» = 0; ssrc = 7; origin = 16; codes = theKeys; count = 2 };
   keys = 5 ∷ 0x6405 ∷ [];
-  heard = 0x2A_0190 ∷ 0x29_0028 ∷ [];
+  heard = 0xA2A_0190 ∷ 0xA29_0028 ∷ [];
 }
 
 abbrev event : ℕ → ℕ → ℕ → ℕ → Bool → Bool → Event
-event code start length volume b e = record { code = code; start = start; length = length; volume = volume; began = b; ended = e }
+event code start length volume b e = record { code = code; start = start; length = length; volume = volume; quietest = volume; began = b; ended = e }
 
 abbrev first : Event
 first = event 5 0 400 10 true false
@@ -190,7 +227,7 @@ numbers =
     ∷ []
 
 pub numbers-told : map (λ row. eventAt (row .0 .0) (row .0 .1)) numbers ≡ map (λ row. row .1) numbers
-unfolding isIn valid rising allValid segmentsFrom units loudest lastEnded continuesNearest continuing eventsFrom
+unfolding isIn valid rising allValid segmentsFrom units loudest quietest lastEnded continuesNearest continuing eventsFrom
 numbers-told = refl
 
 -- so many records lent, and what they are after the call
@@ -204,7 +241,7 @@ lists =
 
 pub lists-told : map (λ row. (list (row .0 .0) (replicate (row .0 .1) none) .answer, list (row .0 .0) (replicate (row .0 .1) none) .records)) lists
     ≡ map (λ row. row .1) lists
-unfolding isIn valid rising allValid segmentsFrom units loudest lastEnded continuesNearest continuing eventsFrom
+unfolding isIn valid rising allValid segmentsFrom units loudest quietest lastEnded continuesNearest continuing eventsFrom
 lists-told = refl
 
 -- A REFUSAL TOLD

@@ -132,7 +132,7 @@ abbrev table : Codes → ℕ → ℕ → Table
 table s c n = record {
   head = record { «payload_type» = 101; «both_types» = 0; «redundant_type» = 0; ssrc = 7; origin = 0; codes = s; count = n };
   keys = (16 * 256 + c) ∷ replicate 127 0;
-  heard = 0x0028_0190 ∷ replicate 127 0;
+  heard = 0xA28_0190 ∷ replicate 127 0;
 }
 
 -- 16 tests the codes that are held, and not whether the set has any

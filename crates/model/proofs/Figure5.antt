@@ -25,7 +25,7 @@ use Rattle.model.specs.Redundant.{
   receivingEach,
   receiveRedundant,
 }
-use Rattle.model.specs.Events.{units, loudest, lastEnded, continuesNearest, continuing, eventsFrom}
+use Rattle.model.specs.Events.{units, loudest, quietest, lastEnded, continuesNearest, continuing, eventsFrom}
 use Rattle.model.specs.List.{events}
 
 -- version 2, type 102, sequence number 18; timestamp 12800; SSRC 0x5234a8
@@ -89,8 +89,8 @@ unfolding isIn receiveRedundant receivingEach answersTo tableAfterReports wholeR
 figure-entries = refl
 
 pub figure-listed : events (receiveRedundant table packet (9 ∷ []) .table)
-    ≡ record { code = 1; start = 11200; length = 1760; volume = 20; began = false; ended = true } ∷ []
+    ≡ record { code = 1; start = 11200; length = 1760; volume = 20; quietest = 20; began = false; ended = true } ∷ []
 unfolding isIn receiveRedundant receivingEach answersTo tableAfterReports wholeRefusal refusalOfBoth refusalForBoth reportsIn ofType
     blocksRefusal blocks cutData older olderWithin lengths hear hearRefusal unheard probes heardBy valid rising allValid segmentsFrom holds
-    put headerRefusal afterHeader payload payloadRefusal searching units loudest lastEnded continuesNearest continuing eventsFrom
+    put headerRefusal afterHeader payload payloadRefusal searching units loudest quietest lastEnded continuesNearest continuing eventsFrom
 figure-listed = refl

@@ -13,7 +13,7 @@ use Rattle.model.specs.Plan.{cutFrom, interim, reportsOfAll, markFirst, 
 use Rattle.model.specs.Segments.{rising}
 use Rattle.model.specs.Table.{segmentsFrom, opened, allValid, valid, holds, put}
 use Rattle.model.specs.Receive.{heardBy, unheard, hearRefusal, probes, hear, arrivalIn, refusalFor, packetRefusal, receive, tableAfter}
-use Rattle.model.specs.Events.{units, loudest, lastEnded, continuesNearest, continuing, eventsFrom}
+use Rattle.model.specs.Events.{units, loudest, quietest, lastEnded, continuesNearest, continuing, eventsFrom}
 use Rattle.model.specs.List.{events}
 use Rattle.model.specs.Sizes.{Sent}
 use Rattle.model.specs.Demands.{Handed, sent, packets}
@@ -49,7 +49,7 @@ abbrev apart : Sent
 apart = press 5 401 300 300 300
 
 abbrev event : ℕ → ℕ → ℕ → Bool → Bool → Event
-event code start length b e = record { code = code; start = start; length = length; volume = 10; began = b; ended = e }
+event code start length b e = record { code = code; start = start; length = length; volume = 10; quietest = 10; began = b; ended = e }
 
 abbrev rows : List (List Handed × List Event)
 rows =
@@ -84,6 +84,6 @@ rows =
 
 pub rows-listed : map (λ row. events (tableAfter table (packets table (row .0)))) rows ≡ map (λ row. row .1) rows
 unfolding isIn tableAfter receive packetRefusal refusalFor hear hearRefusal unheard probes heardBy arrivalIn valid rising allValid segmentsFrom holds put headerRefusal afterHeader payload
-    payloadRefusal writeReport packetOf reportAt reports allOnWire markFirst reportsOfAll interim cutFrom units loudest lastEnded
+    payloadRefusal writeReport packetOf reportAt reports allOnWire markFirst reportsOfAll interim cutFrom units loudest quietest lastEnded
     continuesNearest continuing eventsFrom
 rows-listed = refl

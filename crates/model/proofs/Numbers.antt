@@ -1,6 +1,6 @@
 -- A segment in two numbers: every two numbers are those of a segment, and of one only, since a segment within its ranges is
 -- the one that its two numbers give back.
-use Prim.Native.Nat.{ℕ, _/_, _%_, _<_}
+use Prim.Native.Nat.{ℕ, _+_, _*_, _/_, _%_, _<_}
 use mathlib.Core.Path.{_≡_, refl, sym, ap, _∙_}
 use mathlib.Core.Bool.{Bool, true, false}
 use native.Mathlib.Omega.{arith}
@@ -30,14 +30,16 @@ key-back key heard = omega arith
 
 pub heard-back : (key heard : ℕ) → heardOf (segmentOf key heard) ≡ heard
 heard-back key heard =
-    rw (bit-of-test (heard / 0x1_0000 % 2) (omega arith), bit-of-test (heard / 0x2_0000 % 2) (omega arith)) (omega arith)
+    let both : heard / 0x4_0000 % 64 + 64 * (heard / 0x100_0000) ≡ heard / 0x4_0000 = omega arith in
+    rw (bit-of-test (heard / 0x1_0000 % 2) (omega arith), bit-of-test (heard / 0x2_0000 % 2) (omega arith), both) (omega arith)
 
-pub segment-back : (s : Segment) → s .code < 256 → s .duration < 65536 → segmentOf (keyOf s) (heardOf s) ≡ s
-segment-back s code duration x = record {
+pub segment-back : (s : Segment) → s .code < 256 → s .duration < 65536 → s .quietest < 64 → segmentOf (keyOf s) (heardOf s) ≡ s
+segment-back s code duration quietest x = record {
   offset = e₁ x;
   code = e₂ x;
   duration = e₃ x;
   volume = e₄ x;
+  quietest = e₇ x;
   ended = (ap (λ (n : ℕ). eqb n 1) e₅ ∙ test-of-bit (s .ended)) x;
   marked = (ap (λ (n : ℕ). eqb n 1) e₆ ∙ test-of-bit (s .marked)) x;
 }
@@ -57,7 +59,7 @@ segment-back s code duration x = record {
     e₃ : heardOf s % 65536 ≡ s .duration
     e₃ = omega (arith, a, b)
 
-    e₄ : heardOf s / 0x4_0000 ≡ s .volume
+    e₄ : heardOf s / 0x100_0000 ≡ s .volume
     e₄ = omega (arith, a, b)
 
     e₅ : heardOf s / 0x1_0000 % 2 ≡ bit (s .ended)
@@ -65,3 +67,6 @@ segment-back s code duration x = record {
 
     e₆ : heardOf s / 0x2_0000 % 2 ≡ bit (s .marked)
     e₆ = omega (arith, a, b)
+
+    e₇ : heardOf s / 0x4_0000 % 64 ≡ s .quietest
+    e₇ = omega (arith, a, b)

@@ -104,7 +104,7 @@ first-refuses = refl
 -- Opened so that the wire's timestamps wrap 256 units after the origin; the packets' offset is 356. Of four places the first holds offset 156,
 -- code 5, duration 400, volume 10.
 abbrev table : Table
-table = record { head = head 101 1 102 7 0xFFFF_FF00 1; keys = 0x9C05 ∷ 99 ∷ 98 ∷ 97 ∷ []; heard = 0x28_0190 ∷ 96 ∷ 95 ∷ 94 ∷ [] }
+table = record { head = head 101 1 102 7 0xFFFF_FF00 1; keys = 0x9C05 ∷ 99 ∷ 98 ∷ 97 ∷ []; heard = 0xA28_0190 ∷ 96 ∷ 95 ∷ 94 ∷ [] }
 
 -- the table with other columns
 abbrev after : ℕ → List ℕ → List ℕ → Table
@@ -129,7 +129,7 @@ calls =
       (
         answer 3 2 0,
         entry 0 0 1 ∷ entry 8 0 0 ∷ entry 0 1 1 ∷ 9 ∷ [],
-        after 2 (0x9C05 ∷ 0x1_6405 ∷ 98 ∷ 97 ∷ []) (0x29_0190 ∷ 0xE_0028 ∷ 95 ∷ 94 ∷ []),
+        after 2 (0x9C05 ∷ 0x1_6405 ∷ 98 ∷ 97 ∷ []) (0xA29_0190 ∷ 0x30E_0028 ∷ 95 ∷ 94 ∷ []),
       ),
     )
     -- Eight bytes, none, duration 0, 357 units earlier; and 356, which is the origin itself: new, and not marked. The primary has three bytes.
@@ -140,7 +140,7 @@ calls =
             ++ (good ++ (good ++ ((5 ∷ 10 ∷ 0 ∷ 0 ∷ []) ++ (good ++ (good ++ (5 ∷ 10 ∷ 1 ∷ []))))))),
         replicate 6 9,
       ),
-      (answer 6 2 0, 17 ∷ 7 ∷ 9 ∷ 10 ∷ entry 0 1 1 ∷ 7 ∷ [], after 2 (5 ∷ 0x9C05 ∷ 98 ∷ 97 ∷ []) (0x28_0190 ∷ 0x28_0190 ∷ 95 ∷ 94 ∷ [])),
+      (answer 6 2 0, 17 ∷ 7 ∷ 9 ∷ 10 ∷ entry 0 1 1 ∷ 7 ∷ [], after 2 (5 ∷ 0x9C05 ∷ 98 ∷ 97 ∷ []) (0xA28_0190 ∷ 0xA28_0190 ∷ 95 ∷ 94 ∷ [])),
     )
     -- Each on the table that the one before it left: the same report twice, new and then known, and once more as the primary, marked.
     ∷ (
@@ -148,25 +148,25 @@ calls =
       (
         answer 3 2 0,
         entry 0 1 1 ∷ entry 0 0 2 ∷ entry 0 0 2 ∷ [],
-        after 2 (0x9C05 ∷ 0x1_6405 ∷ 98 ∷ 97 ∷ []) (0x28_0190 ∷ 0x2A_0190 ∷ 95 ∷ 94 ∷ []),
+        after 2 (0x9C05 ∷ 0x1_6405 ∷ 98 ∷ 97 ∷ []) (0xA28_0190 ∷ 0xA2A_0190 ∷ 95 ∷ 94 ∷ []),
       ),
     )
     -- the primary is of another type: nothing is marked, though M is set
     ∷ (
       (header 0x80 0xE6 ++ ((0xE5 ∷ 0x01 ∷ 0x90 ∷ 4 ∷ 0 ∷ []) ++ (good ++ (1 ∷ 2 ∷ []))), 9 ∷ 9 ∷ []),
-      (answer 1 2 0, entry 0 1 1 ∷ 9 ∷ [], after 2 (0x9C05 ∷ 0x1_0005 ∷ 98 ∷ 97 ∷ []) (0x28_0190 ∷ 0x28_0190 ∷ 95 ∷ 94 ∷ [])),
+      (answer 1 2 0, entry 0 1 1 ∷ 9 ∷ [], after 2 (0x9C05 ∷ 0x1_0005 ∷ 98 ∷ 97 ∷ []) (0xA28_0190 ∷ 0xA28_0190 ∷ 95 ∷ 94 ∷ [])),
     )
     -- a primary without M is not marked
     ∷ (
       (header 0x80 0x66 ++ (0x65 ∷ good), 9 ∷ []),
-      (answer 1 2 0, entry 0 1 1 ∷ [], after 2 (0x9C05 ∷ 0x1_6405 ∷ 98 ∷ 97 ∷ []) (0x28_0190 ∷ 0x28_0190 ∷ 95 ∷ 94 ∷ [])),
+      (answer 1 2 0, entry 0 1 1 ∷ [], after 2 (0x9C05 ∷ 0x1_6405 ∷ 98 ∷ 97 ∷ []) (0xA28_0190 ∷ 0xA28_0190 ∷ 95 ∷ 94 ∷ [])),
     )
     -- no block of the event's type; the redundant type is another one too
     ∷ ((header 0x80 0xE6 ++ ((0xE6 ∷ 0 ∷ 0 ∷ 4 ∷ 0x66 ∷ []) ++ (good ++ good)), []), (answer 0 1 0, [], table))
     -- plain packets: taken and marked; refused by their report
     ∷ (
       (header 0x80 0xE5 ++ good, 9 ∷ 9 ∷ []),
-      (answer 1 2 0, entry 0 1 1 ∷ 9 ∷ [], after 2 (0x9C05 ∷ 0x1_6405 ∷ 98 ∷ 97 ∷ []) (0x28_0190 ∷ 0x2A_0190 ∷ 95 ∷ 94 ∷ [])),
+      (answer 1 2 0, entry 0 1 1 ∷ 9 ∷ [], after 2 (0x9C05 ∷ 0x1_6405 ∷ 98 ∷ 97 ∷ []) (0xA28_0190 ∷ 0xA2A_0190 ∷ 95 ∷ 94 ∷ [])),
     )
     ∷ ((header 0x80 0xE5 ++ (16 ∷ 10 ∷ 1 ∷ 0x90 ∷ []), 9 ∷ 9 ∷ []), (answer 1 1 0, 8 ∷ 9 ∷ [], table))
     ∷ ((header 0x80 0xE5, 9 ∷ 9 ∷ []), (answer 1 1 0, 7 ∷ 9 ∷ [], table))
@@ -195,7 +195,7 @@ keys-from k (suc n) = k ∷ keys-from (k + 512) n
 
 -- 128 segments of code 5, at offsets 1, 3, .. 255
 abbrev full : Table
-full = record { head = head 101 1 102 7 0 128; keys = keys-from 261 128; heard = replicate 128 0x28_0190 }
+full = record { head = head 101 1 102 7 0 128; keys = keys-from 261 128; heard = replicate 128 0xA28_0190 }
 
 -- Offsets 98, 99 and 100: 11 for the two that are not held, with the entries looked at, and the one between them is taken.
 abbrev full-packet : List ℕ

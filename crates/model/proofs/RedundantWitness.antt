@@ -33,7 +33,7 @@ use Rattle.model.specs.Redundant.{
   receiveRedundant,
 }
 use Rattle.model.specs.WriteRedundant.{redundantPacketOf}
-use Rattle.model.specs.Events.{units, loudest, lastEnded, continuesNearest, continuing, eventsFrom}
+use Rattle.model.specs.Events.{units, loudest, quietest, lastEnded, continuesNearest, continuing, eventsFrom}
 use Rattle.model.specs.List.{events}
 use Rattle.model.specs.Sizes.{asListed, Sent, planOf, Apart, segmentsInAll, Sizes, FitsTypes}
 use Rattle.model.specs.Demands.{Empty, Lists, sent, stranger}
@@ -253,17 +253,17 @@ pub list-computed : events (afterReceipts table (receipts table given)) ≡ map 
 unfolding isIn afterReceipts receiveRedundant receivingEach tableAfterReports wholeRefusal refusalOfBoth refusalForBoth reportsIn
     ofType blocksRefusal blocks cutData lengths older olderWithin redundantPacketOf headersOf dataOf receive packetRefusal refusalFor hear
     hearRefusal unheard probes heardBy arrivalIn valid rising allValid segmentsFrom holds put headerRefusal afterHeader payload payloadRefusal
-    writeReport packetOf reportAt reports allOnWire markFirst reportsOfAll interim cutFrom units loudest lastEnded continuesNearest continuing
+    writeReport packetOf reportAt reports allOnWire markFirst reportsOfAll interim cutFrom units loudest quietest lastEnded continuesNearest continuing
     eventsFrom
 list-computed = refl
 
 -- The copy of report 1 does not stand in for it: without the plain packet the first press has no marked beginning.
 pub copy-unmarked : events (afterReceipts table (receipts table (take 7 given ++ drop 8 given)))
-    ≡ record { code = 5; start = 100; length = 1000; volume = 10; began = false; ended = true } ∷ asListed short ∷ []
+    ≡ record { code = 5; start = 100; length = 1000; volume = 10; quietest = 10; began = false; ended = true } ∷ asListed short ∷ []
 unfolding isIn afterReceipts receiveRedundant receivingEach tableAfterReports wholeRefusal refusalOfBoth refusalForBoth reportsIn
     ofType blocksRefusal blocks cutData lengths older olderWithin redundantPacketOf headersOf dataOf receive packetRefusal refusalFor hear
     hearRefusal unheard probes heardBy arrivalIn valid rising allValid segmentsFrom holds put headerRefusal afterHeader payload payloadRefusal
-    writeReport packetOf reportAt reports allOnWire markFirst reportsOfAll interim cutFrom units loudest lastEnded continuesNearest continuing
+    writeReport packetOf reportAt reports allOnWire markFirst reportsOfAll interim cutFrom units loudest quietest lastEnded continuesNearest continuing
     eventsFrom
 copy-unmarked = refl
 

@@ -71,7 +71,8 @@ pub heard-valid : (t : Table) (a : Arrival) → PayloadFits a → Searched t a �
 unfolding heardBy
 heard-valid t a f k =
     let q = payload-in-range (t .head .codes) (a .payload) f (k .payload) in
-    valid-if (t .head .codes) (heardBy t a) (record { offset = k .near; code = q .0; some = q .1; duration = q .2; volume = q .3 })
+    valid-if (t .head .codes) (heardBy t a)
+    (record { offset = k .near; code = q .0; some = q .1; duration = q .2; volume = omega arith; quietest = q .3 })
 
 pub taken-valid : (t : Table) (a : Arrival) → valid t ≡ true → PayloadFits a → Taken t a → valid (taking t (heardBy t a)) ≡ true
 taken-valid t a s f k = taking-valid t (heardBy t a) s (heard-valid t a f (k .searched)) (room t (heardBy t a) s (k .room))

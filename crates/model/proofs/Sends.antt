@@ -132,6 +132,7 @@ says-later n s = record {
   some = s .some;
   duration = s .duration;
   volume = s .volume;
+  quietest = s .quietest;
   ended = s .ended;
   marked = s .marked;
 }
@@ -162,6 +163,14 @@ module _ (t : Table) (e : Sent) (range : planInRange (t .head .codes) (planOf t 
       let q = saying-says (planOf t e) k low high r in
       let c = cut-place (planOf t e) (r .wide) (fullSegments (planOf t e)) 0 true (q .0) (q .1) in
       omega (arith, q .2 .offset, c .to, c .long, cut-units (planOf t e) (r .some))
+
+  -- it has one volume
+  said-steady : sayingAt (planOf t e) k .volume ≡ sayingAt (planOf t e) k .quietest
+  said-steady =
+      let r = plan-ranges (t .head .codes) (planOf t e) range .lengths in
+      let q = saying-says (planOf t e) k low high r in
+      let c = cut-place (planOf t e) (r .wide) (fullSegments (planOf t e)) 0 true (q .0) (q .1) in
+      omega (arith, q .2 .volume, q .2 .quietest, c .volume, c .quietest)
 
   pub sent-bytes : bytesOf t (sent e k) ≡ packetOf (reportAt (planOf t e) k)
   sent-bytes = planned-bytes (planOf t e) k low high (t .head .codes) range
@@ -206,4 +215,5 @@ module _ (t : Table) (e : Sent) (range : planInRange (t .head .codes) (planOf t 
       let long = back .duration-is ∙ ap (λ (x : Report). x .duration) is in
       let loud = back .volume-is ∙ ap (λ (x : Report). x .volume) is in
       let last = back .end-is ∙ ap (λ (x : Report). x .ended) is in
-      λ i. record { offset = at i; code = is i .code; duration = long i; volume = loud i; ended = last i; marked = is i .marker }
+      let quiet = loud ∙ said-steady in
+      λ i. record { offset = at i; code = is i .code; duration = long i; volume = loud i; quietest = quiet i; ended = last i; marked = is i .marker }

@@ -35,7 +35,8 @@ pub record ValidSegment (codes : Codes) (s : Segment) : Type 0 where
   pub code : isIn codes (s .code) ≡ true
   pub some : 1 ≤ s .duration
   pub duration : s .duration ≤ 65535
-  pub volume : s .volume ≤ 63
+  pub volume : s .volume ≤ s .quietest
+  pub quietest : s .quietest ≤ 63
 
 pub valid-then : (codes : Codes) (s : Segment) → validSegment codes s ≡ true → ValidSegment codes s
 valid-then codes s v =
@@ -43,11 +44,20 @@ valid-then codes s v =
     let b = and-then _ _ (a .1) in
     let c = and-then _ _ (b .1) in
     let d = and-then _ _ (c .0) in
-    record { offset = ltb-true _ _ (a .0); code = b .0; some = leb-true _ _ (d .0); duration = leb-true _ _ (d .1); volume = leb-true _ _ (c .1) }
+    let e = and-then _ _ (c .1) in
+    record {
+      offset = ltb-true _ _ (a .0);
+      code = b .0;
+      some = leb-true _ _ (d .0);
+      duration = leb-true _ _ (d .1);
+      volume = leb-true _ _ (e .0);
+      quietest = leb-true _ _ (e .1);
+    }
 
 pub valid-if : (codes : Codes) (s : Segment) → ValidSegment codes s → validSegment codes s ≡ true
 valid-if codes s v =
-    and-both (lt-ltb _ _ (v .offset)) (and-both (v .code) (and-both (and-both (le-leb _ _ (v .some)) (le-leb _ _ (v .duration))) (le-leb _ _ (v .volume))))
+    and-both (lt-ltb _ _ (v .offset)) (and-both (v .code) (and-both (and-both (le-leb _ _ (v .some)) (le-leb _ _ (v .duration)))
+    (and-both (le-leb _ _ (v .volume)) (le-leb _ _ (v .quietest)))))
 
 -- WHAT IS HELD
 
@@ -124,7 +134,14 @@ merge-valid : (codes : Codes) (r s : Segment) → validSegment codes r ≡ true 
 merge-valid codes r s p q =
     let a = valid-then codes r p in
     let b = valid-then codes s q in
-    valid-if codes (merge r s) (record { offset = b .offset; code = b .code; some = omega arith; duration = omega arith; volume = omega arith })
+    valid-if codes (merge r s) (record {
+      offset = b .offset;
+      code = b .code;
+      some = omega arith;
+      duration = omega arith;
+      volume = omega arith;
+      quietest = omega arith;
+    })
 
 put-valid : (codes : Codes) (r : Segment) (l : List Segment) → validSegment codes r ≡ true → allValid codes l ≡ true → allValid codes (put r l) ≡ true
 unfolding put allValid
@@ -178,7 +195,7 @@ held-storing codes l t v = from-places (storing l t .keys) (storing l t .heard) 
     stands i h =
         let w = valid-at codes l v i h in
         rw (in-column keyOf l (t .keys) i h, in-column heardOf l (t .heard) i h)
-        (segment-back (entry l i) (in-below codes (entry l i .code) (w .code)) (omega (arith, w .duration)))
+        (segment-back (entry l i) (in-below codes (entry l i .code) (w .code)) (omega (arith, w .duration)) (omega (arith, w .quietest)))
 
 -- the tests, one by one
 pub record Passed (t : Table) : Type 0 where

@@ -20,7 +20,7 @@ use Rattle.model.specs.Segments.{rising}
 use Rattle.model.specs.Search.{middle, isSmaller, kept, searching, search}
 use Rattle.model.specs.Table.{segmentsFrom, opened, oneType, emptyTable, allValid, valid, holds, put}
 use Rattle.model.specs.Receive.{heardBy, unheard, hearRefusal, probes, hear, arrivalIn, refusalFor, packetRefusal, receive}
-use Rattle.model.specs.Events.{units, loudest, lastEnded, continuesNearest, continuing, eventsFrom, eventsOf}
+use Rattle.model.specs.Events.{units, loudest, quietest, lastEnded, continuesNearest, continuing, eventsFrom, eventsOf}
 
 -- PACKETS
 
@@ -105,8 +105,8 @@ lengths-told = refl
 abbrev table : Table
 table = opened theKeys 101 7 16 .table
 
-abbrev at : ℕ → List ℕ
-at timestamp = packetOf (record {
+abbrev at-volume : ℕ → ℕ → List ℕ
+at-volume volume timestamp = packetOf (record {
   marker = true;
   «payload_type» = 101;
   sequence = 1;
@@ -114,9 +114,12 @@ at timestamp = packetOf (record {
   ssrc = 7;
   code = 5;
   ended = false;
-  volume = 10;
+  volume = volume;
   duration = 400;
 })
+
+abbrev at : ℕ → List ℕ
+at = at-volume 10
 
 abbrev calls : List ((Table × List ℕ) × ℕ)
 calls =
@@ -143,19 +146,22 @@ abbrev one-held : Table
 one-held = record {
   head = record { «payload_type» = 101; «both_types» = 0; «redundant_type» = 0; ssrc = 7; origin = 16; codes = theKeys; count = 1 };
   keys = 0x6405 ∷ 99 ∷ 98 ∷ [];
-  heard = 0x28_0190 ∷ 97 ∷ 96 ∷ [];
+  heard = 0xA28_0190 ∷ 97 ∷ 96 ∷ [];
 }
 
--- the answer, and the columns after it: M is bit 17 of what was heard
+-- the answer, and the columns after it: of what was heard, M is bit 17, the quietest stands from bit 18 on, the volume from bit 24
 abbrev columns : List (List ℕ × (Received × (List ℕ × List ℕ)))
 columns =
     -- a new segment moves the one held up, and the place above stays
-    (at 16, (record { refusal = 0; «is_new» = true; count = 2; probes = 1 }, (5 ∷ 0x6405 ∷ 98 ∷ [], 0x2A_0190 ∷ 0x28_0190 ∷ 96 ∷ [])))
-    ∷ (at 117, (record { refusal = 0; «is_new» = true; count = 2; probes = 1 }, (0x6405 ∷ 0x6505 ∷ 98 ∷ [], 0x28_0190 ∷ 0x2A_0190 ∷ 96 ∷ [])))
+    (at 16, (record { refusal = 0; «is_new» = true; count = 2; probes = 1 }, (5 ∷ 0x6405 ∷ 98 ∷ [], 0xA2A_0190 ∷ 0xA28_0190 ∷ 96 ∷ [])))
+    ∷ (at 117, (record { refusal = 0; «is_new» = true; count = 2; probes = 1 }, (0x6405 ∷ 0x6505 ∷ 98 ∷ [], 0xA28_0190 ∷ 0xA2A_0190 ∷ 96 ∷ [])))
     -- a known one
-    ∷ (at 116, (record { refusal = 0; «is_new» = false; count = 1; probes = 1 }, (0x6405 ∷ 99 ∷ 98 ∷ [], 0x2A_0190 ∷ 97 ∷ 96 ∷ [])))
+    ∷ (at 116, (record { refusal = 0; «is_new» = false; count = 1; probes = 1 }, (0x6405 ∷ 99 ∷ 98 ∷ [], 0xA2A_0190 ∷ 97 ∷ 96 ∷ [])))
+    -- a louder report of it, and a quieter one
+    ∷ (at-volume 3 116, (record { refusal = 0; «is_new» = false; count = 1; probes = 1 }, (0x6405 ∷ 99 ∷ 98 ∷ [], 0x32A_0190 ∷ 97 ∷ 96 ∷ [])))
+    ∷ (at-volume 63 116, (record { refusal = 0; «is_new» = false; count = 1; probes = 1 }, (0x6405 ∷ 99 ∷ 98 ∷ [], 0xAFE_0190 ∷ 97 ∷ 96 ∷ [])))
     -- a refusal leaves all places
-    ∷ (at 15, (record { refusal = 10; «is_new» = false; count = 1; probes = 0 }, (0x6405 ∷ 99 ∷ 98 ∷ [], 0x28_0190 ∷ 97 ∷ 96 ∷ [])))
+    ∷ (at 15, (record { refusal = 10; «is_new» = false; count = 1; probes = 0 }, (0x6405 ∷ 99 ∷ 98 ∷ [], 0xA28_0190 ∷ 97 ∷ 96 ∷ [])))
     ∷ []
 
 pub columns-after : map (λ row. (receive one-held (row .0) .answer, (receive one-held (row .0) .table .keys, receive one-held (row .0) .table .heard))) columns
@@ -226,7 +232,7 @@ abbrev full : Table
 full = record {
   head = record { «payload_type» = 101; «both_types» = 0; «redundant_type» = 0; ssrc = 7; origin = 16; codes = theKeys; count = 128 };
   keys = keys-from 261 128;
-  heard = replicate 128 0x28_0190;
+  heard = replicate 128 0xA28_0190;
 }
 
 -- 11 hands back the entries looked at, and so does a report of a segment that is held
@@ -247,23 +253,25 @@ full-answers = refl
 
 -- EVENTS
 
-abbrev event : ℕ → ℕ → ℕ → ℕ → Bool → Bool → Event
-event code start length volume b e = record { code = code; start = start; length = length; volume = volume; began = b; ended = e }
+-- by code, start, length, volume and quietest
+abbrev event : ℕ → ℕ → ℕ → ℕ → ℕ → Bool → Bool → Event
+event code start length loud quiet b e =
+    record { code = code; start = start; length = length; volume = loud; quietest = quiet; began = b; ended = e }
 
 abbrev segments : List (List Segment × List Event)
 segments =
-    -- two keys between one another, each of two segments; the louder segment gives the volume
+    -- two keys between one another, each of two segments; the louder segment gives the volume, the quieter one the quietest
     (
       segment 0 5 65535 10 false true ∷ segment 9 6 65535 4 false true ∷ segment 65535 5 1 7 true false ∷ segment 65544 6 2 8 true false ∷ [],
-      event 5 0 65536 7 true true ∷ event 6 9 65537 4 true true ∷ [],
+      event 5 0 65536 7 10 true true ∷ event 6 9 65537 4 8 true true ∷ [],
     )
     -- two codes at one offset; a gap of one unit is no continuation
     ∷ (
       segment 0 5 65535 10 false true ∷ segment 0 6 65535 10 false false ∷ segment 65536 5 1 10 true false ∷ [],
-      event 5 0 65535 10 true false ∷ event 6 0 65535 10 false false ∷ event 5 65536 1 10 false true ∷ [],
+      event 5 0 65535 10 10 true false ∷ event 6 0 65535 10 10 false false ∷ event 5 65536 1 10 10 false true ∷ [],
     )
     ∷ []
 
 pub segments-list : map (λ row. eventsOf (row .0)) segments ≡ map (λ row. row .1) segments
-unfolding units loudest lastEnded continuesNearest continuing eventsFrom
+unfolding units loudest quietest lastEnded continuesNearest continuing eventsFrom
 segments-list = refl

@@ -25,13 +25,14 @@ pub record Arrival : Type 0 where
   pub marked : Bool
   pub payload : List ℕ
 
--- the report, as it is heard from an origin
+-- the report, as it is heard from an origin: its one volume is both the smallest and the largest
 abbrev pub heardFrom : ℕ → Arrival → Segment
 heardFrom origin a = record {
   offset = offset origin (a .timestamp);
   code = code (a .payload);
   duration = duration (a .payload);
   volume = volume (a .payload);
+  quietest = volume (a .payload);
   ended = ended (a .payload);
   marked = a .marked;
 }

@@ -35,7 +35,7 @@ leftOf m g = record { low = g .low; high = m }
 
 -- what stands past the end of a list
 abbrev pub noSegment : Segment
-noSegment = record { offset = 0; code = 0; duration = 0; volume = 0; ended = false; marked = false }
+noSegment = record { offset = 0; code = 0; duration = 0; volume = 0; quietest = 0; ended = false; marked = false }
 
 -- the entry at a place; the search looks at none past the end
 abbrev pub entry : List Segment → ℕ → Segment

@@ -38,9 +38,17 @@ planOf t e = record {
   «segment_size» = e .«segment_size»;
 }
 
--- as it is to be listed: key, start, length and volume as sent, began and ended both true
+-- as it is to be listed: key, start, length and volume as sent, the loudest and the quietest (02, request 8), began and ended both true
 abbrev pub asListed : Sent → Event
-asListed e = record { code = e .code; start = e .start; length = e .length; volume = e .volume; began = true; ended = true }
+asListed e = record {
+  code = e .code;
+  start = e .start;
+  length = e .length;
+  volume = e .volume;
+  quietest = e .volume;
+  began = true;
+  ended = true;
+}
 
 -- each event ends at or before the next one's start
 unfoldable pub Apart : List Sent → Type 0

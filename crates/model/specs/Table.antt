@@ -74,10 +74,10 @@ openedBoth codes payloadType redundantType ssrc origin =
 -- A SEGMENT IN TWO NUMBERS
 -- The key orders segments: by offset, then code. The other number is what was heard.
 --
---      63                          8 7        0         31           18 17 16 15             0
---     +-----------------------------+----------+       +---------------+--+--+----------------+
---     |           offset            |   code   |       |    volume     |M |E |    duration    |
---     +-----------------------------+----------+       +---------------+--+--+----------------+
+--      63                          8 7        0       31        24 23      18 17 16 15             0
+--     +-----------------------------+----------+     +------------+----------+--+--+----------------+
+--     |           offset            |   code   |     |   volume   | quietest |M |E |    duration    |
+--     +-----------------------------+----------+     +------------+----------+--+--+----------------+
 --
 -- What stands on top has no upper bound, so every two numbers are those of exactly one segment, and no bit is passed
 -- over: that one is within its ranges is tested on the segment. There and back: proofs/Numbers.antt.
@@ -86,14 +86,15 @@ abbrev pub keyOf : Segment → ℕ
 keyOf s = s .offset * 256 + s .code
 
 abbrev pub heardOf : Segment → ℕ
-heardOf s = s .duration + 0x1_0000 * (bit (s .ended) + 2 * (bit (s .marked) + 2 * s .volume))
+heardOf s = s .duration + 0x1_0000 * (bit (s .ended) + 2 * (bit (s .marked) + 2 * (s .quietest + 64 * s .volume)))
 
 abbrev pub segmentOf : ℕ → ℕ → Segment
 segmentOf key heard = record {
   offset = key / 256;
   code = key % 256;
   duration = heard % 0x1_0000;
-  volume = heard / 0x4_0000;
+  volume = heard / 0x100_0000;
+  quietest = heard / 0x4_0000 % 64;
   ended = eqb (heard / 0x1_0000 % 2) 1;
   marked = eqb (heard / 0x2_0000 % 2) 1;
 }
@@ -143,11 +144,12 @@ storing l t = record {
 
 -- THE TESTS
 
--- offset below 2^31, code in the set, duration 1 to 65,535, volume 0 to 63
+-- Offset below 2^31, code in the set, duration 1 to 65,535, volume 0 to 63: the largest number neither below the smallest nor above 63
+-- (02, request 8), and so the smallest is not either.
 abbrev pub validSegment : Codes → Segment → Bool
 validSegment codes s =
     ltb (s .offset) 0x8000_0000
-    && (isIn codes (s .code) && ((leb 1 (s .duration) && leb (s .duration) 65535) && leb (s .volume) 63))
+    && (isIn codes (s .code) && ((leb 1 (s .duration) && leb (s .duration) 65535) && (leb (s .volume) (s .quietest) && leb (s .quietest) 63)))
 
 unfoldable pub allValid : Codes → List Segment → Bool
 allValid codes [] = true

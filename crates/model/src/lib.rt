@@ -39,7 +39,8 @@ pub struct Plan {
     pub segment_size: u32,
 }
 
-// A segment as the table keeps it: the largest duration, the smallest volume number, whether E and M were heard.
+// A segment as the table keeps it: the largest duration, the smallest volume number (the loudest) and the largest (the quietest),
+// whether E and M were heard.
 // `offset` is document 01's term: (timestamp - origin) modulo 2^32.
 #[repr(C)]
 pub struct Segment {
@@ -47,6 +48,7 @@ pub struct Segment {
     pub code: u8,
     pub duration: u16,
     pub volume: u8,
+    pub quietest: u8,
     pub ended: bool,
     pub marked: bool,
 }
@@ -74,14 +76,15 @@ pub struct Table {
     pub heard: [u32; 128],
 }
 
-// One event of the list. `code` is the key, `start` an offset; `began`: the first segment was marked;
-// `ended`: the last segment has E.
+// One event of the list. `code` is the key, `start` an offset; `volume` and `quietest` are the smallest and the largest volume number;
+// `began`: the first segment was marked; `ended`: the last segment has E.
 #[repr(C)]
 pub struct Event {
     pub code: u8,
     pub start: u32,
     pub length: u32,
     pub volume: u8,
+    pub quietest: u8,
     pub began: bool,
     pub ended: bool,
 }

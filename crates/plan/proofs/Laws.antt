@@ -1,6 +1,6 @@
 -- The formulas of specs/Formula.antt give the model's lists of reports.
 use Prim.Native.Nat.{ℕ, zero, suc, _+_, _-_, _*_, _/_, _%_, _<_, _≤_}
-use mathlib.Core.Path.{_≡_, refl, ap, _∙_}
+use mathlib.Core.Path.{_≡_, refl, sym, ap, _∙_}
 use mathlib.Core.Bool.{Bool, true, false, not, cond, _&&_, and-true, and-false}
 use mathlib.Core.List.{List, [], _∷_, _++_}
 use native.Mathlib.Omega.{arith}
@@ -103,12 +103,21 @@ unfolding markFirst
 length-mark [] = refl
 length-mark (r ∷ rs) = refl
 
-mark-at : (rs : List Segment) (i : ℕ) (d r : Segment) → i < length rs → getD rs i d ≡ r → r .marked ≡ false
+mark-at : (rs : List Segment) (i : ℕ) (d r : Segment) → i < length rs → getD rs i d ≡ r → r .marked ≡ false → r .quietest ≡ r .volume
     → getD (markFirst rs) i d ≡ segment (r .offset) (r .code) (r .duration) (r .volume) (r .ended) (eqb i 0)
 unfolding markFirst
-mark-at [] i d r h e f = absurd (omega arith)
-mark-at (x ∷ rs) zero d r h e f = ap marking e
-mark-at (x ∷ rs) (suc i) d r h e f = rw (eqb·suc-zero i, ← f) e
+mark-at [] i d r h e f s = absurd (omega arith)
+mark-at (x ∷ rs) zero d r h e f s = ap marking e
+mark-at (x ∷ rs) (suc i) d r h e f s =
+    e ∙ (λ j. record {
+      offset = r .offset;
+      code = r .code;
+      duration = r .duration;
+      volume = r .volume;
+      quietest = s j;
+      ended = r .ended;
+      marked = (f ∙ sym (eqb·suc-zero i)) j;
+    })
 
 -- ALL SEGMENTS
 
@@ -267,7 +276,7 @@ module _ (p : Plan) where
           let f : 0 + at .segment * p .«segment_size» ≡ at .segment * p .«segment_size» = omega arith in
           rw (f, ends some long (at .segment) (in-place .segment) (at .index), ← u) at
           (mark-at rs i d (ofSegment (p .period) (segmentAt n 0 (at .segment)) (at .index))
-          (omega (arith, length-all n 0 true)) (rw (in-place .both) at e) refl)
+          (omega (arith, length-all n 0 true)) (rw (in-place .both) at e) refl refl)
 
 -- ON THE WIRE
 

@@ -31,15 +31,19 @@ module _ (h : Head) (time : ℕ) (m : Bool) (p : List ℕ) (read : Payload) (sta
     says : Reported (h .codes) p c e v d
     says = reported-says (h .codes) p read stage c e v d x
 
+    -- the volume has 6 bits
+    pub volume-in-range : v ≤ 63
+    volume-in-range = omega (arith, says .volume-is)
+
     pub too-far : 0x8000_0000 ≤ o → hearing.Refused 10 ≡ hearingOf h (arrival time m p)
     unfolding hearingOf unheard
     too-far far = rw (says .unrefused, le-leb 0x8000_0000 (offset (h .origin) time) (omega (arith, at)))
 
-    pub all-heard : o < 0x8000_0000 → (key : ℕ) → key ≡ o * 256 + c → (told : ℕ) → told ≡ d + 0x1_0000 * (bit e + 2 * (bit m + 2 * v))
+    pub all-heard : o < 0x8000_0000 → (key : ℕ) → key ≡ o * 256 + c → (told : ℕ) → told ≡ d + 0x1_0000 * (bit e + 2 * (bit m + 2 * (v + 64 * v)))
         → hearing.Heard key told ≡ hearingOf h (arrival time m p)
     unfolding hearingOf unheard
     all-heard near key k told t =
         let not-far = lt-leb 0x8000_0000 (offset (h .origin) time) (omega (arith, at)) in
         rw (says .unrefused, not-far, k, t, at, says .code-is, says .end-is, says .volume-is, says .duration-is)
 
-pub ruleset hears = (needs, no-report, too-far, all-heard)
+pub ruleset hears = (needs, no-report, volume-in-range, too-far, all-heard)

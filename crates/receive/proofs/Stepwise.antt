@@ -99,4 +99,4 @@ module _ (h : Head) (keys heard : List ℕ) (said : Hearing) where
   pub not-heard : (n : ℕ) → said ≡ hearing.Refused n → (a : Received) → a ≡ refusedWith n (h .count) 0 → TakesHeard h keys heard said a keys heard
   not-heard n x a e = rw x (record { answer = e; table = rw e })
 
-pub ruleset steps = (needs, not-read, other-type, other-source, for-it, header-whole, not-for-it, whole-header, ordered, within, heard-it, took, not-heard)
+pub ruleset steps = (needs, not-read, other-type, other-source, for-it, header-whole, not-for-it, whole-header, ordered, within, heard-it)

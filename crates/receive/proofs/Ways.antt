@@ -1,7 +1,7 @@
 -- The receiving calls: 16, and the steps together, as laws over a head, two columns and a packet's bytes.
 use Prim.Native.Nat.{ℕ, _≤_, _<_}
 use mathlib.Core.Path.{_≡_, refl, sym, _∙_, ap}
-use mathlib.Core.Bool.{Bool, true, false, not, cond}
+use mathlib.Core.Bool.{Bool, true, false, not, cond, false≢true}
 use mathlib.Core.List.{List}
 use native.Mathlib.Omega.{arith}
 use borrow.Author.Needs.{needs}
@@ -37,33 +37,13 @@ use Rattle.model.proofs.Numbers.{segment-back}
 use Rattle.model.proofs.Looks.{hears-with-8, looks-at-8}
 use Rattle.model.proofs.Entries.{hears-below-256, receives-below-256}
 use Rattle.model.proofs.Runs.{PayloadFits, packet-report-fits, hear-stays-valid, stays-valid}
-use Rattle.table.specs.Columns.{takenInto}
+use Rattle.table.specs.Columns.{Takes, takenInto}
 use Rattle.receive.specs.declared.hearing.Hearing.{Hearing}
 use Rattle.receive.specs.declared.hearing.Hearing.the-variants as hearing
 use Rattle.receive.specs.Sayings.{arrival, hearingOf}
-use Rattle.receive.specs.Steps.{hearingIn, takenHeard, TakesHeard}
+use Rattle.receive.specs.Steps.{hearingIn, takenHeard, TakesHeard, HearsTested}
 use Rattle.receive.specs.Receives.{Does, Receives, HearsInto}
-
--- 16
-
-module _ (h : Head) (keys heard bs : List ℕ) (b : Bool) (is : b ≡ valid (tableOf h keys heard)) where
-  module _ (bad : not b ≡ true) (a : Received) (e : a ≡ refusedWith 16 (h .count) 0) where
-    fails : valid (tableOf h keys heard) ≡ false
-    fails = sym is ∙ not-true b bad
-
-    pub bad-table : a ≡ receive (tableOf h keys heard) bs .answer
-    unfolding receive packetRefusal
-    bad-table = rw fails e
-
-    pub bad-table-stays : tableOf (holding (a .count) h) keys heard ≡ receive (tableOf h keys heard) bs .table
-    unfolding receive packetRefusal
-    bad-table-stays = rw (fails, e)
-
-    pub none-looked-at : a .probes ≤ 8
-    none-looked-at = rw e (omega arith)
-
-pub passed : (t : Table) (b : Bool) → b ≡ valid t → not b ≡ false → valid t ≡ true
-passed t b is ok = sym is ∙ not-false b ok
+use Rattle.receive.proofs.Stepwise.{took, not-heard}
 
 -- ONE REPORT
 
@@ -95,7 +75,7 @@ module _ (t : Table) (a : Arrival) (fit : PayloadFits a) where
     same-report =
         let s = t .head .codes in
         let q = payload-in-range s (a .payload) fit (both-none (payloadRefusal s (a .payload)) _ none .0) in
-        segment-back (heardBy t a) (in-below s (code (a .payload)) (q .0)) (omega (arith, q .2))
+        segment-back (heardBy t a) (in-below s (code (a .payload)) (q .0)) (omega (arith, q .2)) (omega (arith, q .3))
 
   -- what a report says, taken, is what the model hears
   said-and-taken : takenHeard t (hearingOf (t .head) a) ≡ hear t a
@@ -142,19 +122,69 @@ module _ (h : Head) (keys heard bs : List ℕ) (v : valid (tableOf h keys heard)
       go false = refl
       go true = said-and-taken t (arrivalIn bs) (packet-report-fits bs fit)
 
-  module _ (said : Hearing) (stage : said ≡ hearingIn h bs) (a : Received) (keys′ heard′ : List ℕ) (e : TakesHeard h keys heard said a keys′ heard′) where
-    pub receives : Receives h keys heard bs a keys′ heard′
-    receives =
-        does h keys heard said (receive t bs) a keys′ heard′ (ap (takenHeard t) stage ∙ step) e (stays-valid t bs v fit) (looks-at-8 t bs)
-        (receives-below-256 t bs)
+  pub receives : (said : Hearing) → said ≡ hearingIn h bs → (a : Received) (keys′ heard′ : List ℕ) → TakesHeard h keys heard said a keys′ heard′
+      → Receives h keys heard bs a keys′ heard′
+  receives said stage a keys′ heard′ e =
+      does h keys heard said (receive t bs) a keys′ heard′ (ap (takenHeard t) stage ∙ step) e (stays-valid t bs v fit) (looks-at-8 t bs)
+      (receives-below-256 t bs)
 
-    pub answered : a ≡ receive t bs .answer
-    answered = receives .answer
+-- THE TESTS FIRST
 
-    pub received : tableOf (holding (a .count) h) keys′ heard′ ≡ receive t bs .table
-    received = receives .table
+module _ (h : Head) (keys heard bs : List ℕ) where
+  abbrev table : Table
+  table = tableOf h keys heard
 
-    pub bounded : a .probes ≤ 8
-    bounded = receives .bounded
+  pub bad-table : (b : Bool) → b ≡ valid table → not b ≡ true → HearsTested table bs (hearing.Refused 16)
+  unfolding receive packetRefusal
+  bad-table b is bad = record { passes = λ e. absurd (false≢true e); step = rw (sym is ∙ not-true b bad) }
 
-pub ruleset ways = (needs, bytes-fit, bad-table, bad-table-stays, none-looked-at, passed, hears-it, answered, received, bounded, receives)
+  pub good-table : BytesFit bs → (b : Bool) → b ≡ valid table → not b ≡ false → (said : Hearing) → said ≡ hearingIn h bs → HearsTested table bs said
+  good-table fit b is ok said stage =
+      let v : valid table ≡ true = sym is ∙ not-false b ok in
+      record { passes = λ e. v; step = ap (takenHeard table) stage ∙ step h keys heard bs v fit }
+
+  module _ (said : Hearing) (w : HearsTested table bs said) where
+    pub may-take : (key told : ℕ) → said ≡ hearing.Heard key told → valid table ≡ true
+    may-take key told x = w .passes (rw x)
+
+    module _ (a : Received) (keys′ heard′ : List ℕ) (e : TakesHeard h keys heard said a keys′ heard′) where
+      answer-is : a ≡ receive table bs .answer
+      answer-is = e .answer ∙ (λ i. w .step i .answer)
+
+      pub table-is : tableOf (holding (a .count) h) keys′ heard′ ≡ receive table bs .table
+      table-is = e .table ∙ (λ i. w .step i .table)
+
+      looked-at : a .probes ≤ 8
+      looked-at = rw answer-is (looks-at-8 table bs)
+
+    module _ (key told : ℕ) (x : said ≡ hearing.Heard key told) (a : Received) (keys′ heard′ : List ℕ)
+        (e : Takes h keys heard key told a keys′ heard′) where
+      pub taken-answer : a ≡ receive table bs .answer
+      taken-answer = answer-is a keys′ heard′ (took h keys heard said key told x a keys′ heard′ e)
+
+      pub taken-probes : a .probes ≤ 8
+      taken-probes = looked-at a keys′ heard′ (took h keys heard said key told x a keys′ heard′ e)
+
+    module _ (n : ℕ) (x : said ≡ hearing.Refused n) (a : Received) (e : a ≡ refusedWith n (h .count) 0) where
+      pub refused-answer : a ≡ receive table bs .answer
+      refused-answer = answer-is a keys heard (not-heard h keys heard said n x a e)
+
+      pub refused-probes : a .probes ≤ 8
+      refused-probes = looked-at a keys heard (not-heard h keys heard said n x a e)
+
+pub ruleset ways = (
+  needs,
+  took,
+  not-heard,
+  bytes-fit,
+  hears-it,
+  receives,
+  bad-table,
+  good-table,
+  may-take,
+  table-is,
+  taken-answer,
+  taken-probes,
+  refused-answer,
+  refused-probes,
+)

@@ -1,7 +1,7 @@
 -- The three steps of receiving: the header of a packet that is the table's, its payload, and the table.
 use Prim.Native.Nat.{ℕ}
 use mathlib.Core.Path.{_≡_}
-use mathlib.Core.Bool.{cond}
+use mathlib.Core.Bool.{Bool, true, false, cond}
 use mathlib.Core.List.{List}
 use lib.Dec.{eqb}
 use Rattle.model.specs.declared.Head.{Head}
@@ -9,8 +9,8 @@ use Rattle.model.specs.declared.Table.{Table}
 use Rattle.model.specs.declared.Received.{Received}
 use Rattle.model.specs.Refusals.{none}
 use Rattle.model.specs.Packet.{afterHeader}
-use Rattle.model.specs.Table.{segmentOf, tableOf, holding}
-use Rattle.model.specs.Receive.{arrivalIn, refusalFor, Receiving, refusing}
+use Rattle.model.specs.Table.{segmentOf, tableOf, holding, valid}
+use Rattle.model.specs.Receive.{arrivalIn, refusalFor, Receiving, refusing, receive}
 use Rattle.packet.specs.declared.header.Header.{Header}
 use Rattle.packet.specs.declared.header.Header.the-variants as header
 use Rattle.packet.specs.Stages.{payloadEnd}
@@ -36,3 +36,14 @@ takenHeard t (hearing.Refused n) = refusing n t 0
 pub record TakesHeard (h : Head) (keys heard : List ℕ) (said : Hearing) (a : Received) (keys′ heard′ : List ℕ) : Type 0 where
   pub answer : a ≡ takenHeard (tableOf h keys heard) said .answer
   pub table : tableOf (holding (a .count) h) keys′ heard′ ≡ takenHeard (tableOf h keys heard) said .table
+
+-- THE TESTS FIRST
+
+abbrev pub isHeard : Hearing → Bool
+isHeard (hearing.Heard key told) = true
+isHeard (hearing.Refused n) = false
+
+-- what a table that is tested first hears in a packet: something only if it passes, and taken it is what the model receives
+pub record HearsTested (t : Table) (bs : List ℕ) (said : Hearing) : Type 0 where
+  pub passes : isHeard said ≡ true → valid t ≡ true
+  pub step : takenHeard t said ≡ receive t bs

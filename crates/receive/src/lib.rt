@@ -1,4 +1,5 @@
-// The receiving call, in place on a table whose columns are lent.
+// The receiving call, in place on a table whose columns are lent. What was heard is taken in each of the three functions by itself: as a
+// step of its own this is more than the compiler puts into them.
 ghost use Prim.Native.Nat.{_≤_};
 ghost use mathlib.Core.Path.{_≡_};
 ghost use mathlib.Core.Bool.{true};
@@ -9,13 +10,13 @@ ghost use Rattle.receive.specs.Receives.{Receives, HearsInto};
 pub mod hearing;
 mod steps;
 
+use hearing::Hearing;
 use hearing::hear;
 use model::Head;
 use model::Received;
 use steps::header_for;
 use steps::hear_in;
-use steps::passes;
-use steps::take_heard;
+use steps::hear_tested;
 use table::refused;
 
 // Hears a payload at its timestamp, marked or not, and takes it into a table that passes the tests, and leaves one that passes them;
@@ -33,7 +34,10 @@ pub fn hear_into(
         r (now (keys .exit)) (now (heard .exit)) ⌝ }
 {
     let said = hear(head, timestamp, marked, payload);
-    take_heard(head, keys, heard, said)
+    match said {
+        Hearing::Heard { key, told } => table::take(head, keys, heard, key, told),
+        Hearing::Refused(n) => refused(n, head.count),
+    }
 }
 
 // Receives a packet into a table that passes the tests, and leaves one that passes them: its report is taken, or it is refused
@@ -49,7 +53,10 @@ pub fn receive_valid(
 {
     let found = header_for(head, packet);
     let said = hear_in(head, packet, found);
-    take_heard(head, keys, heard, said)
+    match said {
+        Hearing::Heard { key, told } => table::take(head, keys, heard, key, told),
+        Hearing::Refused(n) => refused(n, head.count),
+    }
 }
 
 // Receives a packet: its report is taken into the table, or it is refused with 16, 1 to 11 or 17, and the table is as it
@@ -60,10 +67,9 @@ pub fn receive(head: Head, keys: &mut [u64; 128], heard: &mut [u32; 128], packet
         ≡ receive (tableOf head (now (keys .entry)) (now (heard .entry))) (now (packet .entry)) .table ⌝ }
     ensures { λ r. ⌜ r .probes ≤ 8 ⌝ }
 {
-    if !passes(head, keys, heard) {
-        return refused(model::INVALID_TABLE, head.count);
+    let said = hear_tested(head, keys, heard, packet);
+    match said {
+        Hearing::Heard { key, told } => table::take(head, keys, heard, key, told),
+        Hearing::Refused(n) => refused(n, head.count),
     }
-    let found = header_for(head, packet);
-    let said = hear_in(head, packet, found);
-    take_heard(head, keys, heard, said)
 }

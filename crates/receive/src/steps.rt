@@ -1,20 +1,17 @@
-// The steps of receiving a packet: the table's tests, the header, the payload, and the table. Each is small enough for the compiler to
-// put it into the receiving calls.
+// The steps of receiving a packet: the table's tests, the header and the payload. Each is small enough for the compiler to put it into
+// the receiving calls.
 ghost use mathlib.Core.Path.{_≡_};
-ghost use mathlib.Core.Bool.{true};
 ghost use Rattle.model.specs.Table.{tableOf, valid};
-ghost use Rattle.receive.specs.Steps.{headerFor, hearingIn, TakesHeard};
+ghost use Rattle.receive.specs.Steps.{headerFor, hearingIn, HearsTested};
 use super::hearing::Hearing;
 use super::hearing::hear;
 use model::Head;
-use model::Received;
 use packet::header::Header;
 use packet::header::header_of;
 use packet::header::marker;
 use packet::header::payload_type;
 use packet::header::ssrc;
 use packet::header::timestamp;
-use table::refused;
 
 // Whether the table passes the tests of refusal 16, in their two steps.
 pub(crate) fn passes<'a>(head: Head, keys: &'a [u64; 128], heard: &'a [u32; 128]) -> bool
@@ -60,18 +57,18 @@ pub(crate) fn hear_in(head: Head, packet: &[u8], found: Header) -> Hearing
     }
 }
 
-// Takes what was heard into a table that passes the tests, or refuses it with 11.
-pub(crate) fn take_heard(
+// Hears a packet, after the table's tests: 16, then 1 to 10 or 17.
+pub(crate) fn hear_tested<'a>(
     head: Head,
-    keys: &mut [u64; 128],
-    heard: &mut [u32; 128],
-    said: Hearing,
-) -> Received
-    requires { ⌜ valid (tableOf head (now keys) (now heard)) ≡ true ⌝ }
-    ensures { λ r. ⌜ TakesHeard head (now (keys .entry)) (now (heard .entry)) said r (now (keys .exit)) (now (heard .exit)) ⌝ }
+    keys: &'a [u64; 128],
+    heard: &'a [u32; 128],
+    packet: &[u8],
+) -> Hearing
+    ensures { λ r. ⌜ HearsTested (tableOf head (now (keys .entry)) (now (heard .entry))) (now (packet .entry)) r ⌝ }
 {
-    match said {
-        Hearing::Heard { key, told } => table::take(head, keys, heard, key, told),
-        Hearing::Refused(n) => refused(n, head.count),
+    if !passes(head, keys, heard) {
+        return Hearing::Refused(model::INVALID_TABLE);
     }
+    let found = header_for(head, packet);
+    hear_in(head, packet, found)
 }

@@ -55,6 +55,7 @@ fn event(v: Event) {
     show::field(b", start", v.start);
     show::field(b", length", v.length);
     show::field(b", volume", v.volume as u32);
+    show::field(b", quietest", v.quietest as u32);
     show::field(b", began", v.began as u32);
     show::field(b", ended", v.ended as u32);
 }

@@ -7,14 +7,11 @@ use borrow.Author.Needs.{needs}
 use borrow.Author.Tests.{lt-ltb, le-ltb, ltb-true, ltb-false, eqb-true, eqb-false}
 use lib.Bits.{bitOr, or-step, or-zero-l, or-lt}
 use lib.Dec.{ltb, eqb}
-use mir.Val.{Fits}
-use mir.Syntax.{w8, w32}
 use Rattle.model.specs.declared.Segment.{Segment}
 use Rattle.model.specs.Packet.{bit}
 use Rattle.model.specs.Segments.{before, merge}
 use Rattle.model.specs.Table.{keyOf, heardOf, segmentOf}
 use Rattle.model.proofs.Numbers.{bit-of-test}
-use Rattle.segment.specs.Widths.{Narrow}
 
 -- THE ORDER
 
@@ -28,13 +25,6 @@ before-key r s h k = go (ltb (r .offset) (s .offset)) (eqb (r .offset) (s .offse
     go false true false p q u = sym (le-ltb (keyOf r) (keyOf s) (omega (arith, ltb-false, eqb-true)))
     go false false c p q u = sym (le-ltb (keyOf r) (keyOf s) (omega (arith, ltb-false, eqb-false)))
 
--- the fields have the widths of their types
-pub offset-fits : (k w : ℕ) → Narrow k w → Fits w32 (k / 256)
-offset-fits k w v = record { fits = omega (arith, v .offset) }
-
-pub volume-fits : (k w : ℕ) → Narrow k w → Fits w8 (w / 0x4_0000)
-volume-fits k w v = record { fits = omega (arith, v .volume) }
-
 -- TWO REPORTS IN ONE NUMBER
 
 bit-or : (a b : Bool) → bit (a || b) ≡ max (bit a) (bit b)
@@ -42,9 +32,6 @@ bit-or true true = refl
 bit-or true false = refl
 bit-or false true = refl
 bit-or false false = refl
-
-pub longest-small : (d a b : ℕ) → d ≡ max (a % 0x1_0000) (b % 0x1_0000) → d ≤ 65535
-longest-small d a b e = omega arith
 
 -- the flags of both are E of either and M of either
 flags-are : (told held : ℕ) → bitOr (told / 0x1_0000 % 4) (held / 0x1_0000 % 4)
@@ -64,12 +51,19 @@ flags-are told held = two-bits (told / 0x1_0000 % 4) (held / 0x1_0000 % 4) (omeg
     high : (x : ℕ) → x / 0x1_0000 % 4 / 2 % 2 ≡ x / 0x2_0000 % 2
     high x = omega arith
 
+-- compared where they stand
+quietest-moved : (a b : ℕ) → max (a * 0x4_0000) (b * 0x4_0000) ≡ max a b * 0x4_0000
+quietest-moved a b = omega arith
+
+volume-on-top : (a b : ℕ) → min a b / 0x100_0000 ≡ min (a / 0x100_0000) (b / 0x100_0000)
+volume-on-top a b = omega arith
+
 pub two-flags : (a b : ℕ) → a ≤ 3 → b ≤ 3 → bitOr a b ≤ 3
 two-flags a b h k = omega (arith, or-lt 2 a b (omega arith) (omega arith))
 
 pub merged-is : (told held d f v : ℕ) → d ≡ max (told % 0x1_0000) (held % 0x1_0000) → f ≡ bitOr (told / 0x1_0000 % 4) (held / 0x1_0000 % 4)
-    → v ≡ min (told / 0x4_0000) (held / 0x4_0000)
-    → (r : ℕ) → r ≡ d + 0x1_0000 * (f + 4 * v) → r ≡ heardOf (merge (segmentOf 0 told) (segmentOf 0 held))
+    → v ≡ max (told / 0x4_0000 % 64 * 0x4_0000) (held / 0x4_0000 % 64 * 0x4_0000) + min told held / 0x100_0000 * 0x100_0000
+    → (r : ℕ) → r ≡ d + 0x1_0000 * f + v → r ≡ heardOf (merge (segmentOf 0 told) (segmentOf 0 held))
 merged-is told held d f v p q w r is =
     rw (
       is,
@@ -77,6 +71,8 @@ merged-is told held d f v p q w r is =
       q,
       w,
       flags-are told held,
+      quietest-moved (told / 0x4_0000 % 64) (held / 0x4_0000 % 64),
+      volume-on-top told held,
       bit-or (eqb (told / 0x1_0000 % 2) 1) (eqb (held / 0x1_0000 % 2) 1),
       bit-or (eqb (told / 0x2_0000 % 2) 1) (eqb (held / 0x2_0000 % 2) 1),
       bit-of-test (told / 0x1_0000 % 2) (omega arith),
@@ -86,4 +82,4 @@ merged-is told held d f v p q w r is =
     )
     (omega arith)
 
-pub ruleset numbering = (needs, longest-small, two-flags, merged-is)
+pub ruleset numbering = (needs, two-flags, merged-is)

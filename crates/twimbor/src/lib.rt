@@ -80,6 +80,7 @@ fn no_event() -> Event
         start: 0,
         length: 0,
         volume: 0,
+        quietest: 0,
         began: false,
         ended: false,
     }

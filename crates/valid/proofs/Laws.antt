@@ -7,10 +7,12 @@ use Rattle.valid.proofs.Gathers.{
   key-too-far,
   keys-fall,
   keys-rise,
+}
+use Rattle.valid.proofs.Heeds.{
+  weighs,
   heard-start,
   heard-goes-on,
-  volume-too-high,
-  heard-by-none,
+  heard-by-shown,
 }
 use Rattle.valid.proofs.Coded.{none-looked-at, code-missing, next-found, all-found}
 use Rattle.valid.proofs.Tests.{
@@ -37,10 +39,10 @@ pub ruleset testing = (
   key-too-far,
   keys-fall,
   keys-rise,
+  weighs,
   heard-start,
   heard-goes-on,
-  volume-too-high,
-  heard-by-none,
+  heard-by-shown,
   none-looked-at,
   code-missing,
   next-found,

@@ -1,4 +1,5 @@
 pub mod Gathers
+pub mod Heeds
 pub mod Coded
 pub mod Tests
 pub mod Laws

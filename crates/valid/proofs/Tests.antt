@@ -4,7 +4,7 @@ use mathlib.Core.Path.{_≡_, refl, sym, _∙_}
 use mathlib.Core.Bool.{Bool, true, false, not, cond, and-false, false≢true}
 use mathlib.Core.List.{List}
 use native.Mathlib.Omega.{arith}
-use borrow.Author.Tests.{eq-eqb, ne-eqb, lt-ltb, ltb-true, le-leb, lt-leb, leb-true, not-true, not-false}
+use borrow.Author.Tests.{eq-eqb, ne-eqb, lt-ltb, ltb-true, le-leb, lt-leb, not-true, not-false}
 use lib.Dec.{leb, eqb}
 use lib.ListN.{getD}
 use Rattle.model.specs.declared.Head.{Head}
@@ -80,7 +80,9 @@ module _ (h : Head) (keys heard : List ℕ) where
             ltb-true _ _ (sym (before-key (segmentAt keys heard i) (segmentAt keys heard (i + 1)) (omega arith) (omega arith)) ∙ before-if (rises-there i l))
 
     valid-heard : HeardPass heard (h .count)
-    valid-heard = record { long = λ i l. at-place i l .some; loud = λ i l. omega (arith, at-place i l .volume) }
+    valid-heard = record {
+      each = λ i l. let s = at-place i l in record { long = s .some; ordered = s .volume };
+    }
 
     valid-codes : CodesPass (h .codes) keys (h .count)
     valid-codes = record { each = λ i l. at-place i l .code }
@@ -90,9 +92,10 @@ module _ (h : Head) (keys heard : List ℕ) where
     place-valid c i l = valid-if (h .codes) (segmentAt keys heard i) (record {
       offset = omega (arith, k .near i l);
       code = c .each i l;
-      some = w .long i l;
+      some = w .each i l .long;
       duration = omega arith;
-      volume = omega (arith, w .loud i l);
+      volume = w .each i l .ordered;
+      quietest = omega arith;
     })
 
     place-rises : (i : ℕ) → i + 1 < h .count → before (segmentAt keys heard i) (segmentAt keys heard (i + 1)) ≡ true

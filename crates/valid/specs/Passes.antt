@@ -1,5 +1,5 @@
 -- The tests of refusal 16, column by column.
-use Prim.Native.Nat.{ℕ, _+_, _%_, _≤_, _<_}
+use Prim.Native.Nat.{ℕ, _+_, _/_, _%_, _≤_, _<_}
 use mathlib.Core.Path.{_≡_}
 use mathlib.Core.Bool.{Bool, true, false}
 use mathlib.Core.List.{List}
@@ -22,10 +22,24 @@ pub record KeysPass (keys : List ℕ) (n : ℕ) : Type 0 where
   pub near : (i : ℕ) → i < n → getD keys i 0 < 0x80_0000_0000
   pub rise : (i : ℕ) → i + 1 < n → getD keys i 0 < getD keys (i + 1) 0
 
--- each of the first n places has a duration, and a volume up to 63
+-- what was heard is within its ranges: a duration, and the quietest, of 6 bits, not below the loudest
+pub record InRange (told : ℕ) : Type 0 where
+  pub long : 1 ≤ told % 0x1_0000
+  pub ordered : told / 0x100_0000 ≤ told / 0x4_0000 % 64
+
+-- so it is at each of the first n places
 pub record HeardPass (heard : List ℕ) (n : ℕ) : Type 0 where
-  pub long : (i : ℕ) → i < n → 1 ≤ getD heard i 0 % 0x1_0000
-  pub loud : (i : ℕ) → i < n → getD heard i 0 < 0x100_0000
+  pub each : (i : ℕ) → i < n → InRange (getD heard i 0)
+
+-- bits 31 and 16
+pub record Shows (r : ℕ) : Type 0 where
+  pub top : 0x8000_0000 ≤ r
+  pub odd : r / 0x1_0000 % 2 ≡ 1
+
+-- they tell whether what was heard is within its ranges
+pub record Weighs (told r : ℕ) : Type 0 where
+  pub then : Shows r → InRange told
+  pub if : InRange told → Shows r
 
 -- an answer tells whether something holds
 pub record Tells (b : Bool) (P : Type 0) : Type 0 where

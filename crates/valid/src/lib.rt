@@ -1,11 +1,13 @@
 // The tests of refusal 16. Nothing is decided on the way through a column, so that the compiler can test several places at a
-// time: the bits of all numbers are gathered, and since 2^31 offsets and 64 volumes are powers of two, one look at the gathered
-// bits tells whether one number is too large. They tell too whether all codes are among the 16 keys; if the set has these, no code
-// is looked at by itself. There are two steps, each small enough for the compiler to put it into a receiving call.
+// time: the bits of all numbers are gathered, and since 2^31 is a power of two, one look at the bits that some key has tells
+// whether an offset is too large. They tell too whether all codes are among the 16 keys; if the set has these, no code
+// is looked at by itself. Of two numbers that are compared the difference is gathered: its highest bit tells which is larger, and is
+// among the bits that all differences have if all are so. There are two steps, each small enough for the compiler to put it into a
+// receiving call.
 ghost use mathlib.Core.Path.{_≡_};
 ghost use Prim.Native.Nat.{_≤_};
 ghost use Rattle.model.specs.Table.{validTypes, valid, tableOf};
-ghost use Rattle.valid.specs.Passes.{CodesPass, HeardPass, Tells, Ranks, Highest};
+ghost use Rattle.valid.specs.Passes.{CodesPass, Weighs, HeardPass, Tells, Ranks, Highest};
 use codes::contains_byte;
 use model::Codes;
 use model::Head;
@@ -27,8 +29,8 @@ fn each_in(codes: Codes, keys: &[u64; 128], n: usize) -> bool
     true
 }
 
-// What no code of the first n keys is above, by their gathered bits; 256 if the keys do not rise or an offset is 2^31 or more. A key less
-// the one before it, less one, has bit 63 if it does not rise: both are far below that bit, or the gathered bits tell.
+// What no code of the first n keys is above, by their gathered bits; 256 if the keys do not rise or an offset is 2^31 or more. A key that
+// rises, taken off the one before it, leaves bit 63 set: both are far below that bit, or the gathered bits tell.
 fn highest_of(keys: &[u64; 128], n: usize) -> u64
     requires { ⌜ n ≤ 128 ⌝ }
     ensures { λ r. ⌜ Ranks (now (keys .entry)) n r ⌝ }
@@ -37,41 +39,45 @@ fn highest_of(keys: &[u64; 128], n: usize) -> u64
         return 0;
     }
     let mut bits = keys[0];
-    let mut falls = 0u64;
+    let mut rises = 0x8000_0000_0000_0000u64;
     let mut i = 1usize;
     while i < n {
         let key = keys[i];
         bits = bits | key;
-        falls = falls | wrapping_sub_u64(wrapping_sub_u64(key, keys[i - 1]), 1);
+        rises = rises & wrapping_sub_u64(keys[i - 1], key);
         i += 1;
     }
     if 0x80_0000_0000 <= bits {
         return 256;
     }
-    if 0x8000_0000_0000_0000 <= falls {
+    if rises < 0x8000_0000_0000_0000 {
         return 256;
     }
     bits % 256
 }
 
-// Whether each of the first n places has a duration, and a volume up to 63. A duration less one has bit 31 if it is 0.
+// A number whose bits 31 and 16 tell whether there is a duration and the quietest is not below the loudest: the loudest, where the quietest
+// stands, less the quietest and the duration. A duration takes from bit 16 on, and so from the quietest too.
+fn weighed(told: u32) -> u32
+    ensures { λ r. ⌜ Weighs told r ⌝ }
+{
+    let loudest = told / 0x100_0000 * 0x4_0000;
+    let quietest = told / 0x4_0000 % 64 * 0x4_0000;
+    wrapping_sub_u32(loudest, quietest + told % 0x1_0000)
+}
+
+// Whether each of the first n places has a duration, and a quietest that is not below the loudest. It has 6 bits, so neither is above 63.
 fn heard_pass(heard: &[u32; 128], n: usize) -> bool
     requires { ⌜ n ≤ 128 ⌝ }
     ensures { λ r. ⌜ Tells r (HeardPass (now (heard .entry)) n) ⌝ }
 {
-    let mut bits = 0u32;
-    let mut none = 0u32;
+    let mut shown = 0x8001_0000u32;
     let mut i = 0usize;
     while i < n {
-        let told = heard[i];
-        bits = bits | told;
-        none = none | wrapping_sub_u32(told % 0x1_0000, 1);
+        shown = shown & weighed(heard[i]);
         i += 1;
     }
-    if 0x100_0000 <= bits {
-        return false;
-    }
-    none < 0x8000_0000
+    shown == 0x8001_0000
 }
 
 // Whether a table's payload types pass: the event's is up to 127, and so is that of redundant packets, if the table was opened for

@@ -11,9 +11,11 @@ pub struct Both {
 
 /// The two numbers that a place holds, as `include/twimbor.h` draws them.
 fn numbers(segment: &Segment) -> (u64, u32) {
-    let Segment { offset, code, duration, volume, ended, marked } = *segment;
+    let Segment { offset, code, duration, volume, quietest, ended, marked } = *segment;
+    assert!(quietest < 64, "a place has 6 bits for it");
     let flags = if ended { 0x1_0000 } else { 0 } + if marked { 0x2_0000 } else { 0 };
-    (offset * 256 + u64::from(code), u32::from(duration) + flags + u32::from(volume) * 0x4_0000)
+    let volumes = u32::from(volume) * 0x100_0000 + u32::from(quietest) * 0x4_0000;
+    (offset * 256 + u64::from(code), u32::from(duration) + flags + volumes)
 }
 
 impl Both {
@@ -22,7 +24,7 @@ impl Both {
     }
 
     /// All fields and all places are the same, those above the number held too; and the segments
-    /// held are read as they are, a number too large for its field as the field's largest.
+    /// held are read as they are, an offset too large for its field as the field's largest.
     pub fn compare(&self) {
         assert_eq!(self.library, library(&self.paper), "{self:?}");
         let held = self.paper.segments.iter().take(self.paper.count);
@@ -60,7 +62,7 @@ pub fn library_codes(paper: &Codes) -> twimbor::Codes {
 
 /// The library's segment that says what one on paper does.
 pub fn segment(paper: &Segment) -> twimbor::Segment {
-    let &Segment { offset, code, duration, volume, ended, marked } = paper;
-    let (offset, volume) = (offset.min(0xFFFF_FFFF) as u32, volume.min(255) as u8);
-    twimbor::Segment { offset, code, duration, volume, ended, marked }
+    let &Segment { offset, code, duration, volume, quietest, ended, marked } = paper;
+    let offset = offset.min(0xFFFF_FFFF) as u32;
+    twimbor::Segment { offset, code, duration, volume, quietest, ended, marked }
 }

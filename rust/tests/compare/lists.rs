@@ -58,11 +58,22 @@ fn count_meetings(segments: &[Segment], counts: &mut [usize; 3]) {
     }
 }
 
+/// Counts the events of several segments whose quietest is that of the first, and the others.
+fn count_quietest(segments: &[Segment], events: &[Event], counts: &mut [usize; 2]) {
+    for event in events {
+        let is_first = |s: &&Segment| (s.offset, s.code) == (event.start.into(), event.code);
+        let first = segments.iter().find(is_first).unwrap();
+        if event.length > first.duration.into() {
+            counts[usize::from(event.quietest > first.quietest)] += 1;
+        }
+    }
+}
+
 #[test]
 fn events_are_listed_as_on_paper() {
     let random = &Random::new(8);
     let (mut numbers, mut lists) = (Tally::default(), Tally::default());
-    let mut met = [0; 3];
+    let (mut met, mut quietest) = ([0; 3], [0; 2]);
     for i in 0..TABLES {
         let both = Both::of(if i % 4 == 0 { broken_table(random) } else { table(random) });
         let events = paper::events(&both.paper);
@@ -77,12 +88,17 @@ fn events_are_listed_as_on_paper() {
             numbers.add(event_at(table, &events, k));
         }
         both.compare();
-        if events.is_ok() {
-            count_meetings(&both.paper.segments[..both.paper.count], &mut met);
+        if let Ok(events) = &events {
+            let segments = &both.paper.segments[..both.paper.count];
+            count_meetings(segments, &mut met);
+            count_quietest(segments, events, &mut quietest);
         }
     }
     numbers.finish("event_at", &[13, 16]);
     lists.finish("list", &[15, 16]);
     println!("unmarked segments one unit before the end of a short one, at it, after it: {met:?}");
-    assert!(!met.contains(&0));
+    println!(
+        "events whose quietest is that of the first of several segments, or not: {quietest:?}"
+    );
+    assert!(!met.contains(&0) && quietest.iter().all(|&count| count > TABLES / 100));
 }

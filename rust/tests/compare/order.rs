@@ -11,11 +11,13 @@ use twimbor::Report;
 
 /// What a report says to a table; few pairs of offset and code, so that many say something of one.
 fn said(random: &Random, codes: &[u8]) -> Segment {
+    let volume = random.below(64) as u8;
     Segment {
         offset: u64::from(random.pick(&[0, 1, 65_535, 131_070, random.below(1 << 31)])),
         code: random.pick(codes),
         duration: random.pick(&[65_535, random.u16().max(1)]),
-        volume: random.below(64) as u16,
+        volume,
+        quietest: volume,
         ended: random.one_in(4),
         marked: random.one_in(4),
     }

@@ -36,7 +36,9 @@ pub fn events(random: &Random, table: &Table) -> Vec<(Event, u32)> {
         room -= length.div_ceil(size);
         end = start + length;
         let (code, volume) = (random.pick(&codes), random.below(64) as u8);
-        events.push((Event { code, start, length, volume, began: true, ended: true }, size));
+        let quietest = volume;
+        let event = Event { code, start, length, volume, quietest, began: true, ended: true };
+        events.push((event, size));
     }
 }
 

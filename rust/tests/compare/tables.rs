@@ -5,10 +5,11 @@ use crate::make::codes::{codes, few, some_codes};
 use crate::make::packets::{damage, packet_for};
 use crate::make::{self, tables};
 use crate::paper::codes::EMPTY;
-use crate::paper::table::{self as paper, Table};
+use crate::paper::table::{self as paper, Segment, Table};
 use crate::paper::{packet, plan};
 use crate::random::Random;
 use crate::tally::Tally;
+use std::collections::BTreeMap;
 use twimbor::sys::{self, Opened, Received};
 use twimbor::{Plan, Refusal, Taken};
 
@@ -69,8 +70,13 @@ fn tables_are_opened_as_on_paper() {
 fn tables_are_made_of_segments() {
     let random = &Random::new(11);
     let mut tally = Tally::default();
+    let (mut failed_alone, mut edges) = (BTreeMap::new(), [0; TOO_QUIET.len()]);
     for i in 0..MADE {
-        let table = if i % 2 == 0 { tables::broken_table(random) } else { tables::table(random) };
+        let table = match i % 4 {
+            0 => tables::broken_table(random),
+            1 => tables::too_quiet_table(random),
+            _ => tables::table(random),
+        };
         let payload_type = u32::from(table.payload_type);
         let (ssrc, origin) = (table.ssrc, table.origin);
         let (mut expected, mut answer) = paper::open(table.codes, payload_type, ssrc, origin);
@@ -81,6 +87,9 @@ fn tables_are_made_of_segments() {
         }
         expected.count = table.count;
         expected.segments[..held.len()].copy_from_slice(held);
+        if answer.is_ok() {
+            count_failed(&expected, &mut failed_alone, &TOO_QUIET, &mut edges);
+        }
         if answer.is_ok() && !paper::is_valid(&expected) {
             answer = Err(16);
         }
@@ -90,6 +99,64 @@ fn tables_are_made_of_segments() {
         tally.add(answer);
     }
     tally.finish("table of segments", &[12, 16]);
+    say_failed(&TOO_QUIET_FAILED, &failed_alone, &TOO_QUIET, &edges);
+    assert!(TOO_QUIET_FAILED.iter().all(|&tests| failed_alone[tests] > MADE / 1_000));
+    assert!(edges.iter().all(|&count| count > MADE / 1_000));
+}
+
+/// Which tests of [`paper::failed`] a table fails, by their places, and how many tables fail these
+/// and no other.
+type FailedAlone = BTreeMap<Vec<usize>, usize>;
+
+/// The tests that a table may fail with no other. A volume above 63 is above every quietest that a
+/// place can say, and none of these is above 63.
+const FAILED: [&[usize]; 10] = [&[0], &[1], &[2], &[3], &[4], &[5, 6], &[6], &[8], &[9], &[10]];
+
+/// Those that only segments fail which a table is made of.
+const TOO_QUIET_FAILED: [&[usize]; 3] = [&[7], &[5, 7], &[5, 6, 7]];
+
+/// A segment's volumes at the edges of their tests.
+type Edge = (&'static str, fn(&Segment) -> bool);
+const EDGES: [Edge; 9] = [
+    ("both 0", |s| (s.volume, s.quietest) == (0, 0)),
+    ("equal", |s| s.quietest == s.volume),
+    ("0 and 63", |s| (s.volume, s.quietest) == (0, 63)),
+    ("both 63", |s| (s.volume, s.quietest) == (63, 63)),
+    ("the quietest one below", |s| s.quietest + 1 == s.volume && s.volume <= 63),
+    ("64 and 63", |s| (s.volume, s.quietest) == (64, 63)),
+    ("255 and any", |s| s.volume == 255 && s.quietest < 63),
+    ("255 and 63", |s| (s.volume, s.quietest) == (255, 63)),
+    ("right in 6 bits", |s| s.volume > 63 && s.volume % 64 <= s.quietest),
+];
+const TOO_QUIET: [Edge; 6] = [
+    ("63 and 64", |s| (s.volume, s.quietest) == (63, 64)),
+    ("64 above a volume", |s| s.volume <= 63 && s.quietest == 64 + s.volume),
+    ("both 64", |s| (s.volume, s.quietest) == (64, 64)),
+    ("any and 255", |s| s.quietest == 255 && s.volume <= 63),
+    ("right in 6 bits", |s| s.quietest > 63 && s.volume <= s.quietest % 64),
+    ("right in 7 bits", |s| (128..192).contains(&s.quietest) && s.volume <= s.quietest - 128),
+];
+
+/// Counts the tests that a table fails, and the edges that decide the three of the volumes.
+fn count_failed(table: &Table, failed_alone: &mut FailedAlone, edges: &[Edge], met: &mut [usize]) {
+    let failed = paper::failed(table);
+    let failed: Vec<_> = (0..failed.len()).filter(|&test| failed[test]).collect();
+    if failed.iter().all(|test| (5..=7).contains(test)) {
+        let held = &table.segments[..table.count];
+        for (count, (_, is_met)) in met.iter_mut().zip(edges) {
+            *count += usize::from(held.iter().any(is_met));
+        }
+    }
+    *failed_alone.entry(failed).or_default() += 1;
+}
+
+fn say_failed(tests: &[&[usize]], failed_alone: &FailedAlone, edges: &[Edge], met: &[usize]) {
+    let counts = tests.iter().map(|&tests| (tests, failed_alone.get(tests).copied().unwrap_or(0)));
+    println!(
+        "tables that fail these tests of the eleven and no other: {:?}",
+        Vec::from_iter(counts)
+    );
+    println!("tables with volumes {:?}", Vec::from_iter(edges.iter().map(|edge| edge.0).zip(met)));
 }
 
 /// Any table, valid or not, gets one packet.
@@ -97,17 +164,15 @@ fn tables_are_made_of_segments() {
 fn any_table_receives_as_on_paper() {
     let random = &Random::new(6);
     let mut tally = Tally::default();
-    let (mut failed_alone, mut known_when_full, mut no_codes) = ([0; 9], 0, 0);
+    let (mut failed_alone, mut edges) = (BTreeMap::new(), [0; EDGES.len()]);
+    let (mut known_when_full, mut no_codes) = (0, 0);
     for i in 0..TABLES {
         let mut both = Both::of(match i % 3 {
             0 => tables::broken_table(random),
             _ => tables::table(random),
         });
-        let failed = paper::failed(&both.paper);
         assert_eq!(both.library.is_valid(), paper::is_valid(&both.paper), "{both:?}");
-        if failed.iter().filter(|&&failed| failed).count() == 1 {
-            failed_alone[failed.iter().position(|&failed| failed).unwrap()] += 1;
-        }
+        count_failed(&both.paper, &mut failed_alone, &EDGES, &mut edges);
         let packet = packet_for(random, &both.paper);
         let answer = receive(&mut both, &packet);
         tally.add(answer);
@@ -115,9 +180,10 @@ fn any_table_receives_as_on_paper() {
         no_codes += usize::from(both.paper.codes == EMPTY && answer == Err(8));
     }
     tally.finish("receive", &[1, 2, 3, 4, 5, 6, 7, 8, 9, 10, 11, 16, 17]);
-    println!("tables that fail one test of the nine alone: {failed_alone:?}");
+    say_failed(&FAILED, &failed_alone, &EDGES, &edges);
     println!("known segments of full tables: {known_when_full}; codes to empty sets: {no_codes}");
-    assert!(!failed_alone.contains(&0) && known_when_full > 0 && no_codes > 0);
+    assert!(FAILED.iter().all(|&tests| failed_alone.contains_key(tests)) && known_when_full > 0);
+    assert!(edges.iter().all(|&count| count > TABLES / 1_000) && no_codes > 0);
 }
 
 /// Packets one after another on an opened table: of some plans, in any order, repeated, damaged,

@@ -8,8 +8,8 @@ larger-requires c κs = search numbering
 either-requires : tie.Need-either-requires
 either-requires c κs = search numbering
 
-smaller-requires : tie.Need-smaller-requires
-smaller-requires c κs = search numbering
+volumes-of-requires : tie.Need-volumes-of-requires
+volumes-of-requires c κs = search numbering
 
 joined-requires : tie.Need-joined-requires
 joined-requires c κs = search numbering
@@ -18,4 +18,6 @@ returns : tie.Need-returns
 returns c = search numbering
 
 pub merged-spec : {M : Type 1} → statement M
-merged-spec = tie.close (tie.spec larger-requires either-requires smaller-requires joined-requires returns)
+merged-spec =
+    tie.close
+    (tie.spec larger-requires either-requires volumes-of-requires joined-requires returns)

@@ -1,16 +1,15 @@
 -- The gathered bits tell of all keys so far.
 use Prim.Native.Nat.{_-_}
-use borrow.Author.Needs.{needs}
-use Rattle.valid.proofs.Gathers.{Keyed, keys-go-on}
+use Rattle.valid.proofs.Gathers.{Keyed}
 use Rattle.valid.proofs.Laws.{testing}
 use Rattle.valid.proofs.highest_of.Statement.{statement}
 use Rattle.valid.proofs.highest_of.Tie as tie
 
 abbrev Inv-loop : tie.InvT-loop
-Inv-loop keys n bits₀ falls₀ i₀ bits falls i = Keyed keys n i bits falls
+Inv-loop keys n bits₀ rises₀ i₀ bits rises i = Keyed keys n i bits rises
 
 abbrev μ-loop : tie.MeasureT-loop
-μ-loop keys n bits₀ falls₀ i₀ bits falls i = n - i
+μ-loop keys n bits₀ rises₀ i₀ bits rises i = n - i
 
 returns : tie.Need-returns Inv-loop μ-loop
 returns c = search testing
@@ -39,27 +38,14 @@ element-copy-out-wrapping-sub-u64 c = search testing
 wrapping-sub-u64-requires : tie.Need-wrapping-sub-u64-requires Inv-loop μ-loop
 wrapping-sub-u64-requires c κs = search testing
 
-wrapping-sub-u64-requires-2 : tie.Need-wrapping-sub-u64-requires-2 Inv-loop μ-loop
-wrapping-sub-u64-requires-2 c κs = search testing
-
 add-i : tie.Need-add-i Inv-loop μ-loop
 add-i c = search testing
 
 loop-less : tie.Need-loop-less Inv-loop μ-loop
 loop-less c = search testing
 
--- the key less the one before it, from that less one
-abbrev less-before : tie.After-wrapping-sub-u642 Inv-loop μ-loop → tie.After-wrapping-sub-u64 Inv-loop μ-loop
-less-before c = c .before
-
-abbrev turn : tie.After-wrapping-sub-u64 Inv-loop μ-loop → tie.In-loop Inv-loop μ-loop
-turn c = c .before .before .before
-
 loop-again : tie.Need-loop-again Inv-loop μ-loop
-loop-again c =
-    let b = less-before c in
-    keys-go-on _ _ _ _ _ (turn b .before .loop .inv) (turn b .loop-test .taken) _ _ (b .wrapping-sub-u64 .ensures) (c .wrapping-sub-u642 .ensures)
-    (search needs) (search needs)
+loop-again c = search testing
 
 returns-2 : tie.Need-returns-2 Inv-loop μ-loop
 returns-2 c = search testing
@@ -85,7 +71,6 @@ highest-of-spec =
     mul-wrapping-sub-u64
     element-copy-out-wrapping-sub-u64
     wrapping-sub-u64-requires
-    wrapping-sub-u64-requires-2
     add-i
     loop-less
     loop-again

@@ -7,13 +7,34 @@ use crate::random::Random;
 use std::collections::BTreeMap;
 use twimbor::Event;
 
-/// A segment with any numbers that a place can say: an offset of 56 bits and a volume of 14.
+/// Two numbers that a place can say, of 8 bits and of 6: often equal or one apart, often at an end.
+fn any_volumes(random: &Random) -> (u8, u8) {
+    let number = || random.pick(&[0, 1, 62, 63, 64, 65, 255, random.u8(), random.u8() >> 2]);
+    let volume: u8 = number();
+    let one_up = volume.saturating_add(1);
+    let near = random.pick(&[volume, volume, one_up, volume.saturating_sub(1)]);
+    let quietest = random.pick(&[near, number()]);
+    (volume, random.pick(&[quietest.min(63), quietest % 64]))
+}
+
+/// The smallest and the largest of some reports' volumes.
+fn volumes(random: &Random) -> (u8, u8) {
+    let number = || random.pick(&[0, 63, random.below(64) as u8, random.below(64) as u8]);
+    let (one, other) = (number(), number());
+    let near = random.pick(&[one, one, (one + 1).min(63)]);
+    let other = random.pick(&[near, other]);
+    (one.min(other), one.max(other))
+}
+
+/// A segment with any numbers that a place can say: an offset of 56 bits and volumes of 8 and 6.
 pub fn any_segment(random: &Random) -> Segment {
+    let (volume, quietest) = any_volumes(random);
     Segment {
         offset: random.u64() >> (8 + random.below(40)),
         code: random.u8(),
         duration: random.u16(),
-        volume: random.u16() >> (2 + random.below(10)),
+        volume,
+        quietest,
         ended: random.bool(),
         marked: random.bool(),
     }
@@ -25,6 +46,7 @@ pub fn any_event(random: &Random) -> Event {
         start: random.u32(),
         length: random.u32(),
         volume: random.u8(),
+        quietest: random.u8(),
         began: random.bool(),
         ended: random.bool(),
     }
@@ -59,11 +81,13 @@ pub fn table(random: &Random) -> Table {
         let any = u64::from(random.pick(&[random.u32(), 0x7FFF_FFFF]));
         let near = random.pick(&[grid + 1, end + 1, end.saturating_sub(1)]);
         let one_off = random.pick(&[size.saturating_sub(1).max(1), size.saturating_add(1)]);
+        let (volume, quietest) = volumes(random);
         last = Segment {
             offset: random.pick(&[grid, grid, grid, end, end, near, any]) % (1 << 31),
             code: random.pick(&[last.code, random.pick(&few)]),
             duration: random.pick(&[size, size, size, one_off, random.u16().max(1)]),
-            volume: random.below(64) as u16,
+            volume,
+            quietest,
             ended: random.one_in(ends),
             marked: random.one_in(marks),
         };
@@ -99,19 +123,41 @@ pub fn broken_table(random: &Random) -> Table {
     let mut table = table(random);
     let last = table.count.saturating_sub(1);
     let some = random.index(last + 1);
-    match random.below(12) {
+    match random.below(14) {
         0 => table.count = random.pick(&[129, 130, 255, 256, 1 << 31, 1 << 32, usize::MAX]),
         1 => table.payload_type = random.pick(&[128, 255]),
         2 => table.codes.0[usize::from(table.segments[some].code)] = false,
         3 => table.segments[some].duration = 0,
-        4 => table.segments[some].volume |= 64 << random.below(8),
+        4 => (table.segments[some].volume, table.segments[some].quietest) = any_volumes(random),
         5 => table.segments[some] = any_segment(random),
         6 => table.segments[last].offset |= 1 << (31 + random.below(25)),
         7 => table.segments[last] = table.segments[some],
         8 => table.redundant_type = random.pick(&[128, 255, table.payload_type]),
         9 => table.segments[some].code ^= 1 << random.below(8),
         10 => table.codes = random.pick(&[EMPTY, codes(random)]),
+        11 => {
+            let volume = table.segments[some].volume.min(63); // above in a place that holds none
+            table.segments[some].quietest = random.pick(&[volume.saturating_sub(1), volume, 63]);
+        }
+        12 => {
+            table.segments[some].volume |= random.pick(&[64, 128, 192, 255]);
+            table.segments[some].quietest |= random.pick(&[0, 63]);
+        }
         _ => table.segments.swap(last, some),
+    }
+    table
+}
+
+/// A table on paper that is valid but for one segment's quietest, often by one bit too high, and
+/// sometimes its volume. The library's table has no room for that, but may be made of such segments.
+pub fn too_quiet_table(random: &Random) -> Table {
+    let mut table = table(random);
+    let some = random.index(table.count.max(1));
+    let Segment { volume, quietest, .. } = &mut table.segments[some];
+    let bit = random.pick(&[64, 128, 192]);
+    *quietest = random.pick(&[64, 255, bit | *quietest, bit | *volume, 64 | random.u8()]);
+    if random.one_in(3) {
+        *volume = random.pick(&[63, 64, *quietest, *quietest - 1, random.u8()]);
     }
     table
 }

@@ -37,7 +37,8 @@ pub fn events(table: &Table) -> Result<Vec<Event>, u8> {
             code: chain[0].code,
             start: chain[0].offset as u32,
             length: chain.iter().map(|s| u32::from(s.duration)).sum(),
-            volume: chain.iter().map(|s| s.volume).min().unwrap() as u8,
+            volume: chain.iter().map(|s| s.volume).min().unwrap(),
+            quietest: chain.iter().map(|s| s.quietest).max().unwrap(),
             began: chain[0].marked,
             ended: chain[chain.len() - 1].ended,
         });

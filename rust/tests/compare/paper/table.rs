@@ -4,13 +4,16 @@ use super::codes::{self, Codes};
 use super::packet::{Header, header, report};
 use std::collections::BTreeMap;
 
-/// A segment. Its numbers are as wide as what a place of the library's table can say.
+/// A segment. Its numbers have room for what a place of the library's table can say, and a segment
+/// that one is made of.
 #[derive(Clone, Copy, Debug, Default, PartialEq, Eq)]
 pub struct Segment {
     pub offset: u64,
     pub code: u8,
     pub duration: u16,
-    pub volume: u16,
+    /// The smallest number heard, and the largest.
+    pub volume: u8,
+    pub quietest: u8,
     pub ended: bool,
     pub marked: bool,
 }
@@ -37,8 +40,17 @@ const ZEROS: Table = Table {
     origin: 0,
     codes: codes::EMPTY,
     count: 0,
-    segments: [Segment { offset: 0, code: 0, duration: 0, volume: 0, ended: false, marked: false };
-        128],
+    segments: [NONE; 128],
+};
+
+const NONE: Segment = Segment {
+    offset: 0,
+    code: 0,
+    duration: 0,
+    volume: 0,
+    quietest: 0,
+    ended: false,
+    marked: false,
 };
 
 /// The empty table; under a refusal, one of zeros.
@@ -69,10 +81,10 @@ pub fn open_redundant(
     (Table { payload_type, both_types: 1, redundant_type, ssrc, origin, codes, ..ZEROS }, Ok(()))
 }
 
-/// Which of the nine tests a table fails: the seven of 01 in its order, and those of a table of the
-/// second opening. Of a table that says it has more than 128 segments, all 128 places are looked
-/// at.
-pub fn failed(table: &Table) -> [bool; 9] {
+/// Which of the eleven tests a table fails: the seven of 01 in its order, with the two of the
+/// largest volume after the smallest's, and those of a table of the second opening. Of a table that
+/// says it has more than 128 segments, all 128 places are looked at.
+pub fn failed(table: &Table) -> [bool; 11] {
     let held = &table.segments[..table.count.min(128)];
     let pairs: Vec<_> = held.iter().map(|s| (s.offset, s.code)).collect();
     [
@@ -82,6 +94,8 @@ pub fn failed(table: &Table) -> [bool; 9] {
         held.iter().any(|s| !table.codes.contains(s.code.into())),
         held.iter().any(|s| s.duration == 0),
         held.iter().any(|s| s.volume > 63),
+        held.iter().any(|s| s.quietest < s.volume),
+        held.iter().any(|s| s.quietest > 63),
         table.payload_type > 127,
         table.both_types != 0 && table.redundant_type > 127,
         table.both_types != 0 && table.redundant_type == table.payload_type,
@@ -118,7 +132,8 @@ fn said(table: &Table, header: &Header) -> Result<Segment, u8> {
         offset,
         code: report.code as u8,
         duration: report.duration as u16,
-        volume: report.volume as u16,
+        volume: report.volume as u8,
+        quietest: report.volume as u8,
         ended: report.ended,
         marked: report.marker,
     })
@@ -171,6 +186,7 @@ pub fn both(one: &Segment, other: &Segment) -> Segment {
     Segment {
         duration: one.duration.max(other.duration),
         volume: one.volume.min(other.volume),
+        quietest: one.quietest.max(other.quietest),
         ended: one.ended || other.ended,
         marked: one.marked || other.marked,
         ..*one

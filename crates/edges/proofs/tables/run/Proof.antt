@@ -20,7 +20,7 @@ abbrev Inv-loop3 : tie.InvT-loop3
 Inv-loop3 k₀ k = Unit {0}
 
 abbrev μ-loop3 : tie.MeasureT-loop3
-μ-loop3 k₀ k = 20 - k
+μ-loop3 k₀ k = 27 - k
 
 loop-holds : tie.Need-loop-holds Inv-loop μ-loop Inv-loop2 μ-loop2 Inv-loop3 μ-loop3
 loop-holds c = search needs

@@ -21,10 +21,33 @@ smaller-requires c κs = search grouping
 cast-t8 : tie.Need-cast-t8
 cast-t8 c = search grouping
 
+cast-larger : tie.Need-cast-larger
+cast-larger c = search grouping
+
+cast-larger-2 : tie.Need-cast-larger-2
+cast-larger-2 c = search grouping
+
+larger-requires : tie.Need-larger-requires
+larger-requires c κs = search grouping
+
+cast-t12 : tie.Need-cast-t12
+cast-t12 c = search grouping
+
 returns : tie.Need-returns
-returns c = search grouping
+returns c = (search grouping, search grouping)
 
 pub lengthened-spec : {M : Type 1} → statement M
 lengthened-spec =
     tie.close
-    (tie.spec cast-t3 add-t4 cast-smaller cast-smaller-2 smaller-requires cast-t8 returns)
+    (tie.spec
+    cast-t3
+    add-t4
+    cast-smaller
+    cast-smaller-2
+    smaller-requires
+    cast-t8
+    cast-larger
+    cast-larger-2
+    larger-requires
+    cast-t12
+    returns)

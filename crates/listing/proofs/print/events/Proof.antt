@@ -6,7 +6,7 @@ use Rattle.listing.proofs.print.events.Statement.{statement}
 use Rattle.listing.proofs.print.events.Tie as tie
 
 abbrev Inv-loop : tie.InvT-loop
-Inv-loop b₀ head keys heard k₀ end₀ b k end = (length b ≡ length b₀) × (end ≤ 192 * k) × (k ≤ 128)
+Inv-loop b₀ head keys heard k₀ end₀ b k end = (length b ≡ length b₀) × (end ≤ 224 * k) × (k ≤ 128)
 
 abbrev μ-loop : tie.MeasureT-loop
 μ-loop b₀ head keys heard k₀ end₀ b k end = 128 - k
