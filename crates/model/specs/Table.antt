@@ -144,8 +144,8 @@ storing l t = record {
 
 -- THE TESTS
 
--- Offset below 2^31, code in the set, duration 1 to 65,535, volume 0 to 63: the largest number neither below the smallest nor above 63
--- (02, request 8), and so the smallest is not either.
+-- Offset below 2^31, code in the set, duration 1 to 65,535; the largest volume number neither below the smallest nor above 63 (02, request
+-- 8). The smallest, which 01 tests for 0 to 63, is then not above 63 either.
 abbrev pub validSegment : Codes → Segment → Bool
 validSegment codes s =
     ltb (s .offset) 0x8000_0000

@@ -45,6 +45,9 @@ use Rattle.receive.specs.Steps.{hearingIn, takenHeard, TakesHeard, Hears
 use Rattle.receive.specs.Receives.{Does, Receives, HearsInto}
 use Rattle.receive.proofs.Stepwise.{took, not-heard}
 
+pub passed : (t : Table) (b : Bool) → b ≡ valid t → not b ≡ false → valid t ≡ true
+passed t b is ok = sym is ∙ not-false b ok
+
 -- ONE REPORT
 
 module _ (t : Table) (a : Arrival) (fit : PayloadFits a) where
@@ -140,7 +143,7 @@ module _ (h : Head) (keys heard bs : List ℕ) where
 
   pub good-table : BytesFit bs → (b : Bool) → b ≡ valid table → not b ≡ false → (said : Hearing) → said ≡ hearingIn h bs → HearsTested table bs said
   good-table fit b is ok said stage =
-      let v : valid table ≡ true = sym is ∙ not-false b ok in
+      let v = passed table b is ok in
       record { passes = λ e. v; step = ap (takenHeard table) stage ∙ step h keys heard bs v fit }
 
   module _ (said : Hearing) (w : HearsTested table bs said) where
