@@ -109,6 +109,17 @@ fn structs_and_numbers_are_the_headers() {
     compile(&["-fsyntax-only", path]);
 }
 
+/// What a C program prints that has a function `say` over the header, and makes these calls.
+fn printed_by_c(name: &str, say: &str, calls: &str) -> String {
+    let program = format!("{}/{name}", env!("CARGO_TARGET_TMPDIR"));
+    let path = format!("{program}.c");
+    let main = format!("int main(void)\n{{\n{calls}}}");
+    fs::write(&path, format!("#include \"{HEADER}\"\n#include <stdio.h>\n{say}\n{main}\n"))
+        .unwrap();
+    compile(&[&path, "-o", &program]);
+    String::from_utf8(Command::new(program).output().unwrap().stdout).unwrap()
+}
+
 fn compile(arguments: &[&str]) {
     let compiled = Command::new("cc").arg("-std=c11").args(arguments).status();
     assert!(compiled.expect("a C compiler named cc").success());
@@ -161,13 +172,7 @@ fn entries_are_read_as_by_the_header() {
     printf(\"%d %d \", twimbor_entry_refusal(entry), twimbor_entry_is_new(entry));
     printf(\"%u\\n\", (unsigned)twimbor_entry_probes(entry));
 }";
-    let path = concat!(env!("CARGO_TARGET_TMPDIR"), "/entries.c");
-    let program = concat!(env!("CARGO_TARGET_TMPDIR"), "/entries");
-    let main = format!("int main(void)\n{{\n{calls}}}");
-    fs::write(path, format!("#include \"{HEADER}\"\n#include <stdio.h>\n{say}\n{main}\n")).unwrap();
-    compile(&[path, "-o", program]);
-    let printed = Command::new(program).output().unwrap().stdout;
-    assert_eq!(String::from_utf8_lossy(&printed), expected);
+    assert_eq!(printed_by_c("entries", say, &calls), expected);
 }
 
 /// What the header's functions read in the number that a place holds, and what this crate reads;
@@ -203,13 +208,7 @@ fn segments_are_read_and_put_as_by_the_header() {
     printf(\"%d %d %d %d %d \", s.duration, s.volume, s.quietest, s.ended, s.marked);
     printf(\"%lu\\n\", (unsigned long)put.heard[0]);
 }";
-    let path = concat!(env!("CARGO_TARGET_TMPDIR"), "/segments.c");
-    let program = concat!(env!("CARGO_TARGET_TMPDIR"), "/segments");
-    let main = format!("int main(void)\n{{\n{calls}}}");
-    fs::write(path, format!("#include \"{HEADER}\"\n#include <stdio.h>\n{say}\n{main}\n")).unwrap();
-    compile(&[path, "-o", program]);
-    let printed = Command::new(program).output().unwrap().stdout;
-    assert_eq!(String::from_utf8_lossy(&printed), expected);
+    assert_eq!(printed_by_c("segments", say, &calls), expected);
 }
 
 /// Two reports of one segment, of every two volumes: each number stands where the header draws it,
