@@ -24,12 +24,13 @@
 #include <stdint.h>
 
 #define TWIMBOR_VERSION_MAJOR 0
-#define TWIMBOR_VERSION_MINOR 11
+#define TWIMBOR_VERSION_MINOR 12
 #define TWIMBOR_VERSION_PATCH 0
 #define TWIMBOR_VERSION \
     TWIMBOR_DIGITS(TWIMBOR_VERSION_MAJOR) "." TWIMBOR_DIGITS(TWIMBOR_VERSION_MINOR) "." TWIMBOR_DIGITS(TWIMBOR_VERSION_PATCH)
 #define TWIMBOR_DIGITS(number) TWIMBOR_QUOTED(number)
 #define TWIMBOR_QUOTED(digits) #digits
+#define TWIMBOR_VERSION_NUMBER (TWIMBOR_VERSION_MAJOR * 1000000 + TWIMBOR_VERSION_MINOR * 1000 + TWIMBOR_VERSION_PATCH)
 
 #define TWIMBOR_PLACES 128              /* the segments that a table holds at most, and so the events that it can list */
 #define TWIMBOR_LONGEST_EVENT 1048560   /* timestamp units that a plan can have: 16 segments of 65535 */
@@ -41,13 +42,31 @@
 /* On every function whose answer says whether it was refused, or is a truth: gcc and clang warn if it is thrown away. */
 #ifdef __GNUC__
 #define TWIMBOR_MUST_CHECK __attribute__((warn_unused_result))
+#define TWIMBOR_KEPT __attribute__((used))
 #else
 #define TWIMBOR_MUST_CHECK
+#define TWIMBOR_KEPT
+#endif
+#ifdef __has_attribute
+#if __has_attribute(retain)
+#undef TWIMBOR_KEPT
+#define TWIMBOR_KEPT __attribute__((used, retain))
+#endif
 #endif
 
 #ifdef __cplusplus
 extern "C" {
 #endif
+
+/* The archive of the same version has a function of this name, and no other archive has it. So a program with a header of one version and
+ * an archive of another does not link, and the name that the linker finds missing says why. It answers TWIMBOR_VERSION_NUMBER. */
+#define TWIMBOR_NEEDED TWIMBOR_NEEDED_BY(TWIMBOR_VERSION_MAJOR, TWIMBOR_VERSION_MINOR, TWIMBOR_VERSION_PATCH)
+#define TWIMBOR_NEEDED_BY(major, minor, patch) TWIMBOR_NEEDED_NAME(major, minor, patch)
+#define TWIMBOR_NEEDED_NAME(a, b, c) twimbor_header_##a##_##b##_##c##_needs_archive_##a##_##b##_##c
+uint32_t TWIMBOR_NEEDED(void);
+
+/* What refers to it: a pointer that stays in every program, also where unused data is left out (`retain`, --gc-sections). */
+TWIMBOR_KEPT static uint32_t (*const twimbor_archive_version)(void) = TWIMBOR_NEEDED;
 
 enum {
     TWIMBOR_TOO_SHORT = 1,          /* fewer than 12 bytes */
@@ -116,8 +135,14 @@ typedef struct {
     uint64_t from_192;
 } twimbor_codes;
 
-/* The codes 0 to 15: digits 0 to 9, * and #, A to D. */
-static const twimbor_codes TWIMBOR_KEYS = {0xffff, 0, 0, 0};
+/* The codes 0 to 15: digits 0 to 9, * and #, A to D. What is static in C is initialised with TWIMBOR_KEYS_INIT, since a constant's name is
+ * no constant there; C++ takes TWIMBOR_KEYS too, also in a constexpr. */
+#define TWIMBOR_KEYS_INIT {0xffff, 0, 0, 0}
+#if defined(__cplusplus) && __cplusplus >= 201103L
+static constexpr twimbor_codes TWIMBOR_KEYS = TWIMBOR_KEYS_INIT;
+#else
+static const twimbor_codes TWIMBOR_KEYS = TWIMBOR_KEYS_INIT;
+#endif
 
 typedef struct {
     twimbor_codes codes;
@@ -253,10 +278,23 @@ typedef struct {
     bool found;                     /* false if there are no more blocks; all others but `after` are then zeros */
 } twimbor_block_step_result;
 
-/* The archive's two calls of the walker. The functions after them do the same with a twimbor_walker, and say what each does. A cursor of
- * any numbers is answered: where they are no walk's, by no block or by some part of the packet. */
+/* The same step in fewer numbers, from the three of a cursor. The data start at the cursor's body: an older block's are `length` bytes, and
+ * the primary's go to the payload's end. After the block the cursor's header is `next`, and its body where the data end. */
+typedef struct {
+    size_t next;                    /* the place of the next header; as it was if there is no block */
+    uint16_t length;                /* at most 1023; 0 for the primary */
+    uint16_t offset;
+    uint8_t payload_type;
+    bool primary;
+    bool found;                     /* false if there are no more blocks; all others but `next` are then zeros */
+} twimbor_header_step_result;
+
+/* The archive's three calls of the walker. The functions after them do the same with a twimbor_walker, and say what each does. A cursor of
+ * any numbers is answered: where they are no walk's, by no block or by some part of the packet. The last call is for a walker's next block:
+ * its numbers and its answer are handed over in registers. */
 TWIMBOR_MUST_CHECK twimbor_walk_started twimbor_walk_start(const uint8_t *packet, size_t bytes);
 TWIMBOR_MUST_CHECK twimbor_block_step_result twimbor_block_step(const uint8_t *packet, size_t bytes, twimbor_cursor cursor);
+TWIMBOR_MUST_CHECK twimbor_header_step_result twimbor_header_step(const uint8_t *packet, size_t bytes, size_t header, size_t body, size_t end);
 
 /* A walker over the blocks of a packet, which it does not copy: the packet must stay as it is while it is walked. */
 typedef struct {
@@ -291,15 +329,17 @@ TWIMBOR_MUST_CHECK static inline uint8_t twimbor_walk(twimbor_walker *walker, co
 /* Hands out the next block, in packet order, and answers true; or answers false if there are no more, and the block stays as it is. */
 TWIMBOR_MUST_CHECK static inline bool twimbor_next_block(twimbor_walker *walker, twimbor_block *block)
 {
-    twimbor_block_step_result step = twimbor_block_step(walker->packet, walker->bytes, walker->cursor);
+    const size_t body = walker->cursor.body, end = walker->cursor.end;
+    const twimbor_header_step_result step = twimbor_header_step(walker->packet, walker->bytes, walker->cursor.header, body, end);
     if (!step.found)
         return false;
-    walker->cursor = step.after;
-    block->data = walker->packet + step.start;
-    block->bytes = step.end - step.start;
+    block->data = walker->packet + body;
+    block->bytes = step.primary ? end - body : step.length;
     block->payload_type = step.payload_type;
     block->offset = step.offset;
     block->primary = step.primary;
+    walker->cursor.header = step.next;
+    walker->cursor.body = body + block->bytes;
     return true;
 }
 
@@ -354,6 +394,12 @@ typedef struct {
     bool ended;                     /* E was heard */
     bool marked;                    /* M was heard */
 } twimbor_segment;
+
+/* A segment as a table keeps it, one number from each column. */
+typedef struct {
+    uint64_t key;
+    uint32_t heard;
+} twimbor_segment_numbers;
 
 typedef struct {
     uint64_t refusal;
@@ -421,8 +467,12 @@ TWIMBOR_MUST_CHECK twimbor_event_result twimbor_event_at_columns(twimbor_head he
 TWIMBOR_MUST_CHECK twimbor_listed twimbor_list_columns(twimbor_head head, const uint64_t *keys, const uint32_t *heard,
                                                        twimbor_event *list, size_t records);
 
-/* Opens an empty table for the packets of one payload type and SSRC and for the codes of a set, with zeros in all places. Offsets are
- * counted from the timestamp `origin`.
+/* Opens an empty table for the packets of one payload type and SSRC and for the codes of a set, with zeros in all places.
+ *
+ * A report's offset is (its timestamp - `origin`) modulo 2^32, and one of 2^31 or more is refused with 10. So the origin is a timestamp
+ * that no report to be taken is earlier than, by however little: that of the stream's first packet, audio or event, or of the call's
+ * start. If the first packet to arrive may not be the first sent, take it some seconds earlier, modulo 2^32. From there the table takes
+ * 2^31 units, which are three days at 8000 a second.
  *
  * Answers 0, or refuses: 12 if the set is empty or the payload type above 127, and the table is then all zeros. */
 TWIMBOR_MUST_CHECK static inline uint8_t twimbor_open(twimbor_table *table, twimbor_codes codes, uint32_t payload_type, uint32_t ssrc,
@@ -433,7 +483,8 @@ TWIMBOR_MUST_CHECK static inline uint8_t twimbor_open(twimbor_table *table, twim
     return opened.refusal;
 }
 
-/* Opens an empty table for the packets of one SSRC that are of the event's payload type or redundant, with zeros in all places.
+/* Opens an empty table for the packets of one SSRC that are of the event's payload type or redundant, with zeros in all places. The origin
+ * is chosen as for twimbor_open; the blocks of a packet are up to 16383 units earlier than the packet.
  *
  * Answers 0, or refuses: 12 if the set is empty, one of the payload types above 127, or they are equal, and the table is then all zeros,
  * as one that was opened for one payload type. */
@@ -548,34 +599,31 @@ TWIMBOR_MUST_CHECK static inline twimbor_listed twimbor_list(const twimbor_table
     return twimbor_list_columns(table->head, table->keys, table->heard, list, records);
 }
 
-/* The segment at place i, counted from 0, of a table that passes the tests; all zeros if the table holds none there. In a table
- * that fails them, an offset too large for its field reads as the largest number of the field, which is outside the range too. */
+/* The segment that a table keeps in these two numbers. Every number is answered; an offset too large for its field, which no table that
+ * passes the tests has, reads as the largest number of the field, which is outside the range too. */
+twimbor_segment twimbor_segment_of_numbers(uint64_t key, uint32_t heard);
+
+/* The two numbers in which a table keeps a segment. A quietest above 63 has no room: the volume is then put as 255, which is outside the
+ * range too, and of the quietest the lower 6 bits. */
+twimbor_segment_numbers twimbor_numbers_of_segment(twimbor_segment segment);
+
+/* The segment at place i, counted from 0, of a table that passes the tests; all zeros if the table holds none there. In a table that fails
+ * them it is what twimbor_segment_of_numbers says. */
 static inline twimbor_segment twimbor_segment_at(const twimbor_table *table, size_t i)
 {
-    twimbor_segment segment = {0, 0, 0, 0, 0, false, false};
-    if (i < table->head.count && i < TWIMBOR_PLACES) {
-        uint64_t key = table->keys[i];
-        uint32_t heard = table->heard[i];
-        segment.offset = key >> 40 ? UINT32_MAX : (uint32_t)(key >> 8);
-        segment.code = (uint8_t)key;
-        segment.duration = (uint16_t)heard;
-        segment.volume = (uint8_t)(heard >> 24);
-        segment.quietest = heard >> 18 & 63;
-        segment.ended = heard >> 16 & 1;
-        segment.marked = heard >> 17 & 1;
-    }
-    return segment;
+    twimbor_segment none = {0, 0, 0, 0, 0, false, false};
+    return i < table->head.count && i < TWIMBOR_PLACES ? twimbor_segment_of_numbers(table->keys[i], table->heard[i]) : none;
 }
 
-/* Puts a segment at place i, counted from 0; nothing changes if i is above 127. A quietest above 63 has no room: the volume is then put as
- * 255, which is outside the range too. A table of given segments is opened, gets them in their order, and then their number in `head.count`.
- * Whether it passes the tests, twimbor_is_valid tells. */
+/* Puts a segment at place i, counted from 0, as twimbor_numbers_of_segment has it; nothing changes if i is above 127. A table of given
+ * segments is opened, gets them in their order, and then their number in `head.count`. Whether it passes the tests, twimbor_is_valid
+ * tells. */
 static inline void twimbor_set_segment(twimbor_table *table, size_t i, twimbor_segment segment)
 {
     if (i < TWIMBOR_PLACES) {
-        uint32_t quietest = segment.quietest & 63, volume = segment.quietest > 63 ? 255 : segment.volume;
-        table->keys[i] = (uint64_t)segment.offset << 8 | segment.code;
-        table->heard[i] = segment.duration | (uint32_t)segment.ended << 16 | (uint32_t)segment.marked << 17 | quietest << 18 | volume << 24;
+        twimbor_segment_numbers numbers = twimbor_numbers_of_segment(segment);
+        table->keys[i] = numbers.key;
+        table->heard[i] = numbers.heard;
     }
 }
 

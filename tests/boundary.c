@@ -689,6 +689,10 @@ static bool same_cursor(twimbor_cursor a, twimbor_cursor b)
 static bool is_answered(const uint8_t *packet, size_t bytes, twimbor_cursor cursor)
 {
     twimbor_block_step_result step = twimbor_block_step(packet, bytes, cursor);
+    twimbor_header_step_result less = twimbor_header_step(packet, bytes, cursor.header, cursor.body, cursor.end);
+    if (less.next != step.after.header || less.length != (step.primary ? 0 : step.end - step.start) || less.offset != step.offset
+        || less.payload_type != step.payload_type || less.primary != step.primary || less.found != step.found)
+        return false;
     if (step.found) return cursor.header < bytes && step.start <= step.end && step.end <= bytes && step.payload_type < 128;
     return same_cursor(step.after, cursor) && step.start == 0 && step.end == 0 && step.offset == 0 && step.payload_type == 0
         && !step.primary;
@@ -1288,8 +1292,41 @@ static void reading_entries(void)
     }
 }
 
-/* The two functions that stand in the header alone. Numbers above their range fit their fields; what does not fit, only a column that
- * a caller filled can hold, or a quietest above 63, with which the volume is put as 255 and no other field is touched. */
+/* A segment and its two numbers, both ways: each bit of them stands for one field, alone and beside all others. Only the bits of a key
+ * above the offset's 32 do not come back. */
+static void numbers(void)
+{
+    static const struct {
+        uint64_t key;
+        uint32_t heard;
+        twimbor_segment segment;
+    } rows[] = {
+        {0, 0, {0, 0, 0, 0, 0, false, false}},
+        {255, 0xffff, {.code = 255, .duration = 65535}},
+        {0xffffffff00, 1 << 16, {.offset = UINT32_MAX, .ended = true}},
+        {0x8000000000, 1 << 17, {.offset = 0x80000000, .marked = true}},
+        {0x7fffffff05, 63 << 18, {.offset = 0x7fffffff, .code = 5, .quietest = 63}},
+        {256, 255u << 24, {.offset = 1, .volume = 255}},
+        {0x123456789A, 0xBCDEF012, {0x12345678, 0x9A, 0xF012, 0xBC, 0x37, false, true}},
+        {0xffffffffff, UINT32_MAX, {UINT32_MAX, 255, 65535, 255, 63, true, true}},
+    };
+    for (size_t i = 0; i < sizeof rows / sizeof *rows; i++) {
+        EXPECT(same_segment(twimbor_segment_of_numbers(rows[i].key, rows[i].heard), rows[i].segment));
+        twimbor_segment_numbers back = twimbor_numbers_of_segment(rows[i].segment);
+        EXPECT(back.key == rows[i].key && back.heard == rows[i].heard);
+    }
+    for (int bit = 0; bit < 64 + 32; bit++)
+        for (int others = 0; others < 2; others++) {
+            uint64_t key = (bit < 64 ? (uint64_t)1 << bit : 0) ^ (others ? 0xffffffffff : 0);
+            uint32_t heard = (bit < 64 ? 0 : (uint32_t)1 << (bit - 64)) ^ (others ? UINT32_MAX : 0);
+            twimbor_segment segment = twimbor_segment_of_numbers(key, heard);
+            twimbor_segment_numbers back = twimbor_numbers_of_segment(segment);
+            EXPECT(back.key == (key >> 40 ? 0xffffffff00 | (key & 255) : key) && back.heard == heard);
+        }
+}
+
+/* Segments at places of a table. Numbers above their range fit their fields; what does not fit, only a column that a caller filled can
+ * hold, or a quietest above 63, with which the volume is put as 255 and no other field is touched. */
 static void segments(void)
 {
     static const twimbor_segment zeros;
@@ -1381,6 +1418,7 @@ int main(void)
     kinds();
     taking_sets();
     reading_entries();
+    numbers();
     segments();
     words();
     printf("the boundary from C: as expected\n");

@@ -78,6 +78,14 @@ AT(twimbor_block_step_result, payload_type, 42, 1);
 AT(twimbor_block_step_result, primary, 43, 1);
 AT(twimbor_block_step_result, found, 44, 1);
 
+SIZE(twimbor_header_step_result, 16);
+AT(twimbor_header_step_result, next, 0, 8);
+AT(twimbor_header_step_result, length, 8, 2);
+AT(twimbor_header_step_result, offset, 10, 2);
+AT(twimbor_header_step_result, payload_type, 12, 1);
+AT(twimbor_header_step_result, primary, 13, 1);
+AT(twimbor_header_step_result, found, 14, 1);
+
 SIZE(twimbor_walker, 40);
 AT(twimbor_walker, packet, 0, 8);
 AT(twimbor_walker, bytes, 8, 8);
@@ -112,6 +120,10 @@ AT(twimbor_segment, volume, 8, 1);
 AT(twimbor_segment, quietest, 9, 1);
 AT(twimbor_segment, ended, 10, 1);
 AT(twimbor_segment, marked, 11, 1);
+
+SIZE(twimbor_segment_numbers, 16);
+AT(twimbor_segment_numbers, key, 0, 8);
+AT(twimbor_segment_numbers, heard, 8, 4);
 
 SIZE(twimbor_received, 32);
 AT(twimbor_received, refusal, 0, 8);

@@ -94,10 +94,17 @@ INLINE bool continues(const twimbor_table *t, size_t i)
     return j > 0 && follows(t, j - 1, i);
 }
 
+/* Does the segment at place i begin an event? */
+INLINE bool begins(const twimbor_table *t, size_t i)
+{
+    return t->heard[i] & M || !continues(t, i);
+}
+
 static twimbor_event event_from(const twimbor_table *t, size_t i)
 {
     uint32_t h = t->heard[i];
     twimbor_event v = {code(t->keys[i]), (uint32_t)(t->keys[i] >> 8), duration(h), volume(h), quietest(h), h & M, h & E};
+    if (v.ended) return v;
     for (size_t j = i + 1; j < t->head.count; j++) {
         if (code(t->keys[j]) != v.code) continue;
         h = t->heard[j];
@@ -111,21 +118,14 @@ static twimbor_event event_from(const twimbor_table *t, size_t i)
     return v;
 }
 
-/* Each event is found anew by its number, counted from 0, as the library's list does over its event at a number. */
-static twimbor_event event_number(const twimbor_table *t, size_t k)
-{
-    for (size_t i = 0;; i++) {
-        if (!(t->heard[i] & M) && continues(t, i)) continue;
-        if (k-- == 0) return event_from(t, i);
-    }
-}
-
+/* The list goes on where the event before was found, as the library's does over its event at a number. */
 twimbor_listed plain_list(const twimbor_table *t, twimbor_event *out, size_t room)
 {
     size_t n = 0;
     if (!passes(t)) return (twimbor_listed){16, 0};
-    for (size_t i = 0; i < t->head.count; i++) n += t->heard[i] & M || !continues(t, i);
+    for (size_t i = 0; i < t->head.count; i++) n += begins(t, i);
     if (room < n) return (twimbor_listed){15, 0};
-    for (size_t k = 0; k < n; k++) out[k] = event_number(t, k);
+    for (size_t i = 0, k = 0; k < n; i++)
+        if (begins(t, i)) out[k++] = event_from(t, i);
     return (twimbor_listed){0, n};
 }

@@ -81,13 +81,18 @@ impl<'a> Iterator for Blocks<'a> {
     type Item = Block<'a>;
 
     fn next(&mut self) -> Option<Block<'a>> {
-        let step = sys::block_step(self.packet, self.cursor);
-        self.cursor = step.after;
-        step.found.then(|| Block {
+        let step = sys::header_step(self.packet, self.cursor);
+        if !step.found {
+            return None;
+        }
+        let start = self.cursor.body;
+        let end = if step.primary { self.cursor.end } else { start + usize::from(step.length) };
+        self.cursor = sys::Cursor { header: step.next, body: end, end: self.cursor.end };
+        Some(Block {
             payload_type: step.payload_type,
             offset: step.offset,
             primary: step.primary,
-            data: &self.packet[step.start..step.end],
+            data: &self.packet[start..end],
         })
     }
 }

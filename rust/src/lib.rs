@@ -31,6 +31,7 @@
 //! }
 //! let [volume, quietest] = [10, 10]; // the loudest and the quietest report
 //! let event = Event { code: 5, start: 1000, length: 800, volume, quietest, began: true, ended: true };
+//! # #[cfg(feature = "alloc")]
 //! assert_eq!(table.events()?, [event]);
 //!
 //! // A report's duration ends at 65,535 units, so a key that is held longer arrives in segments,
@@ -40,6 +41,7 @@
 //!     table.receive(&packet)?;
 //! }
 //! assert_eq!(table.segments().len(), 3);
+//! # #[cfg(feature = "alloc")]
 //! assert_eq!(table.events()?, [event, Event { start: 5000, length: 70_000, ..event }]);
 //! # Ok::<(), twimbor::Refusal>(())
 //! ```

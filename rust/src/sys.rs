@@ -5,7 +5,7 @@
 //! changes, and the values answered are zeros, but for the count of [`Received`], [`Captured`] and
 //! [`BlocksReceived`], and the probes under 11.
 
-use crate::{Codes, Entry, Event, Head, OlderReport, PLACES, Plan, Report, Table};
+use crate::{Codes, Entry, Event, Head, OlderReport, PLACES, Plan, Report, Segment, Table};
 
 /// What [`read_codes`] answers.
 #[repr(C)]
@@ -77,6 +77,25 @@ pub struct WalkStarted {
     pub cursor: Cursor,
     /// The refusal's number, or 0.
     pub refusal: u8,
+}
+
+/// What [`header_step`] answers: the same step in fewer numbers.
+#[repr(C)]
+#[derive(Clone, Copy, Debug, Default, PartialEq, Eq)]
+pub struct HeaderStepResult {
+    /// The place of the next header; as it was if there is no block.
+    pub next: usize,
+    /// How many bytes an older block's data are, at most 1023; 0 for the primary, whose data go to
+    /// the payload's end.
+    pub length: u16,
+    /// How much earlier than the packet's timestamp its own is; 0 for the primary.
+    pub offset: u16,
+    /// 0 to 127.
+    pub payload_type: u8,
+    /// It is the last block.
+    pub primary: bool,
+    /// False if there are no more blocks; all others but `next` are then zeros.
+    pub found: bool,
 }
 
 /// What [`block_step`] answers.
@@ -173,6 +192,16 @@ pub struct Listed {
     pub events: usize,
 }
 
+/// What [`numbers_of_segment`] answers: a segment as a table keeps it, one number from each column.
+#[repr(C)]
+#[derive(Clone, Copy, Debug, PartialEq, Eq)]
+pub struct SegmentNumbers {
+    /// The offset and the code.
+    pub key: u64,
+    /// What was heard of them.
+    pub heard: u32,
+}
+
 type Keys = [u64; PLACES];
 type Heard = [u32; PLACES];
 
@@ -199,6 +228,13 @@ unsafe extern "C" {
     ) -> u8;
     fn twimbor_walk_start(packet: *const u8, bytes: usize) -> WalkStarted;
     fn twimbor_block_step(packet: *const u8, bytes: usize, cursor: Cursor) -> BlockStepResult;
+    fn twimbor_header_step(
+        packet: *const u8,
+        bytes: usize,
+        header: usize,
+        body: usize,
+        end: usize,
+    ) -> HeaderStepResult;
     safe fn twimbor_report_count(codes: Codes, plan: Plan) -> CountResult;
     fn twimbor_write_report(codes: Codes, plan: Plan, k: u32, output: *mut u8, bytes: usize) -> u8;
     safe fn twimbor_open_table(codes: Codes, payload_type: u32, ssrc: u32, origin: u32) -> Opened;
@@ -242,6 +278,8 @@ unsafe extern "C" {
         list: *mut Event,
         records: usize,
     ) -> Listed;
+    safe fn twimbor_segment_of_numbers(key: u64, heard: u32) -> Segment;
+    safe fn twimbor_numbers_of_segment(segment: Segment) -> SegmentNumbers;
 }
 
 // A slice is never null, not even an empty one, points to as many elements as it says, and a lent
@@ -306,6 +344,11 @@ pub fn walk_start(packet: &[u8]) -> WalkStarted {
 /// The block at a cursor, and the cursor after it. A cursor of any numbers is answered.
 pub fn block_step(packet: &[u8], cursor: Cursor) -> BlockStepResult {
     unsafe { twimbor_block_step(packet.as_ptr(), packet.len(), cursor) }
+}
+
+/// The same in fewer numbers, which are handed over in registers.
+pub fn header_step(packet: &[u8], Cursor { header, body, end }: Cursor) -> HeaderStepResult {
+    unsafe { twimbor_header_step(packet.as_ptr(), packet.len(), header, body, end) }
 }
 
 /// How many reports a plan has.
@@ -375,4 +418,16 @@ pub fn event_at_columns(head: Head, keys: &Keys, heard: &Heard, k: u32) -> Event
 /// Writes the events into the first records of a lent list.
 pub fn list_columns(head: Head, keys: &Keys, heard: &Heard, list: &mut [Event]) -> Listed {
     unsafe { twimbor_list_columns(head, keys, heard, list.as_mut_ptr(), list.len()) }
+}
+
+/// The segment that a table keeps in these two numbers. An offset too large for its field reads as
+/// the largest number of the field.
+pub fn segment_of_numbers(key: u64, heard: u32) -> Segment {
+    twimbor_segment_of_numbers(key, heard)
+}
+
+/// The two numbers in which a table keeps a segment. A quietest above 63 has no room, and the volume
+/// is then 255.
+pub fn numbers_of_segment(segment: Segment) -> SegmentNumbers {
+    twimbor_numbers_of_segment(segment)
 }

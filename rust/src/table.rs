@@ -8,6 +8,7 @@ use crate::{Codes, Event, sys};
 pub const PLACES: usize = 128;
 
 /// A segment of a table: what was heard of one offset and code.
+#[repr(C)]
 #[derive(Clone, Copy, Debug, Default, PartialEq, Eq, Hash)]
 pub struct Segment {
     /// (timestamp - origin) modulo 2^32, below 2^31.
@@ -24,33 +25,6 @@ pub struct Segment {
     pub ended: bool,
     /// M was heard.
     pub marked: bool,
-}
-
-// A table keeps a segment in two numbers, as include/twimbor.h draws them.
-impl Segment {
-    fn of_numbers(key: u64, heard: u32) -> Segment {
-        Segment {
-            offset: u32::try_from(key >> 8).unwrap_or(u32::MAX),
-            code: key as u8,
-            duration: heard as u16,
-            volume: (heard >> 24) as u8,
-            quietest: (heard >> 18 & 63) as u8,
-            ended: heard >> 16 & 1 == 1,
-            marked: heard >> 17 & 1 == 1,
-        }
-    }
-
-    fn key(&self) -> u64 {
-        u64::from(self.offset) << 8 | u64::from(self.code)
-    }
-
-    fn heard(&self) -> u32 {
-        let flags = u32::from(self.ended) << 16 | u32::from(self.marked) << 17;
-        // A quietest above 63 has no room; a volume of 255 is outside the range too.
-        let volume = if self.quietest > 63 { u8::MAX } else { self.volume };
-        let volumes = u32::from(self.quietest & 63) << 18 | u32::from(volume) << 24;
-        u32::from(self.duration) | flags | volumes
-    }
 }
 
 /// What a table was opened with, and how many segments it holds.
@@ -173,6 +147,12 @@ impl Table {
     /// An empty table for one payload type and SSRC, and for the codes of a set. Refusal: 12, also
     /// if the set is empty.
     ///
+    /// A report's offset is (its timestamp - `origin`) modulo 2^32, and one of 2^31 or more is refused
+    /// with 10. So the origin is a timestamp that no report to be taken is earlier than, by however
+    /// little: that of the stream's first packet, audio or event, or of the call's start. If the
+    /// first packet to arrive may not be the first sent, take it some seconds earlier, modulo 2^32.
+    /// From there the table takes 2^31 units, which are three days at 8000 a second.
+    ///
     /// The payload type is a number of any type: a report's, a plan's and a head's go in as they are.
     ///
     /// ```
@@ -199,7 +179,8 @@ impl Table {
 
     /// An empty table for the packets of one SSRC that are of the event's payload type or
     /// redundant. Refusal: 12, also if the set is empty or the two types are equal. They are numbers
-    /// of any type.
+    /// of any type. The origin is chosen as for [`Table::open`]; the blocks of a packet are up to
+    /// 16,383 units earlier than the packet.
     ///
     /// ```
     /// use twimbor::{Codes, Refusal, Table};
@@ -235,8 +216,8 @@ impl Table {
         let mut table = Table::open(codes, payload_type, ssrc, origin)?;
         table.head.count = segments.len();
         for (place, segment) in segments.iter().take(PLACES).enumerate() {
-            table.keys[place] = segment.key();
-            table.heard[place] = segment.heard();
+            let numbers = sys::numbers_of_segment(*segment);
+            (table.keys[place], table.heard[place]) = (numbers.key, numbers.heard);
         }
         if table.is_valid() { Ok(table) } else { Err(Refusal::InvalidTable) }
     }
@@ -250,7 +231,7 @@ impl Table {
     /// for its field reads as the largest number of the field, which is outside the range too.
     pub fn segments(&self) -> impl ExactSizeIterator<Item = Segment> {
         let numbers = self.keys.iter().zip(&self.heard).take(self.head.count);
-        numbers.map(|(&key, &heard)| Segment::of_numbers(key, heard))
+        numbers.map(|(&key, &heard)| sys::segment_of_numbers(key, heard))
     }
 
     /// Whether the table passes the tests of refusal 16: at most 128 segments, strictly rising by
@@ -330,6 +311,7 @@ impl Table {
     /// let mut entries = [Entry::default(); 4];
     /// assert_eq!(table.receive_redundant(&packet[..bytes], &mut entries), Ok(2));
     /// assert_eq!([entries[0].answer(), entries[1].answer()], [Ok(Taken::New); 2]);
+    /// # #[cfg(feature = "alloc")]
     /// assert_eq!(table.events()?.iter().map(|event| event.key()).collect::<String>(), "56");
     /// # Ok::<(), Refusal>(())
     /// ```

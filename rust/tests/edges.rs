@@ -21,6 +21,22 @@ const P7: Plan = Plan {
     segment_size: 65_535,
 };
 
+/// Without the feature `alloc` a table has no `events`; its list into records says the same.
+#[cfg(not(feature = "alloc"))]
+trait Listing {
+    fn events(&self) -> Result<Vec<Event>, Refusal>;
+}
+
+#[cfg(not(feature = "alloc"))]
+impl Listing for Table {
+    fn events(&self) -> Result<Vec<Event>, Refusal> {
+        let mut list = vec![Event::default(); twimbor::PLACES];
+        let events = self.list_into(&mut list)?;
+        list.truncate(events);
+        Ok(list)
+    }
+}
+
 /// The events of a table that holds these two segments.
 fn events(first: Segment, second: Segment) -> Vec<Event> {
     Table::from_segments(KEYS, 101, 1, 0, &[first, second]).unwrap().events().unwrap()

@@ -5,9 +5,10 @@
 use std::fs;
 use std::mem::{offset_of, size_of};
 use std::process::Command;
-use twimbor::sys::WalkStarted;
+use twimbor::sys::{HeaderStepResult, WalkStarted};
 use twimbor::sys::{BlockStepResult, BlocksReceived, Captured, CodesResult, CountResult, Cursor};
-use twimbor::sys::{EventResult, Listed, LowestResult, Opened, ReadResult, Received, TextResult};
+use twimbor::sys::{EventResult, Listed, LowestResult, Opened, ReadResult, Received};
+use twimbor::sys::{SegmentNumbers, TextResult};
 use twimbor::{
     CODES_BYTES, Codes, Entry, Event, Head, LONGEST_EVENT, OLDER_REPORTS, OlderReport,
     PACKET_BYTES, PLACES,
@@ -77,10 +78,17 @@ fn structs_and_numbers_are_the_headers() {
     layout!(file, BlockStepResult as "twimbor_block_step_result" {
         after, start, end, offset, payload_type, primary, found
     });
+    layout!(file, HeaderStepResult as "twimbor_header_step_result" {
+        next, length, offset, payload_type, primary, found
+    });
     layout!(file, Head as "twimbor_head" {
         payload_type, both_types, redundant_type, ssrc, origin, codes, count
     });
     layout!(file, Table as "twimbor_table" { head, keys, heard });
+    layout!(file, Segment as "twimbor_segment" {
+        offset, code, duration, volume, quietest, ended, marked
+    });
+    layout!(file, SegmentNumbers as "twimbor_segment_numbers" { key, heard });
     layout!(file, Event as "twimbor_event" {
         code, start, length, volume, quietest, began, ended
     });
@@ -116,7 +124,7 @@ fn printed_by_c(name: &str, say: &str, calls: &str) -> String {
     let main = format!("int main(void)\n{{\n{calls}}}");
     fs::write(&path, format!("#include \"{HEADER}\"\n#include <stdio.h>\n{say}\n{main}\n"))
         .unwrap();
-    compile(&[&path, "-o", &program]);
+    compile(&[&path, env!("TWIMBOR_ARCHIVE"), "-o", &program]);
     String::from_utf8(Command::new(program).output().unwrap().stdout).unwrap()
 }
 
@@ -127,28 +135,24 @@ fn compile(arguments: &[&str]) {
 
 #[test]
 fn version_words_and_keys_are_the_headers() {
-    let main = "int main(void)
+    let say = "static void say(twimbor_codes keys)
 {
-    puts(TWIMBOR_VERSION);
-    twimbor_codes keys = TWIMBOR_KEYS;
+    printf(\"%s %u\\n\", TWIMBOR_VERSION, (unsigned)twimbor_archive_version());
     printf(\"%llx %llx \", (unsigned long long)keys.from_0, (unsigned long long)keys.from_64);
     printf(\"%llx %llx\\n\", (unsigned long long)keys.from_128, (unsigned long long)keys.from_192);
     for (unsigned number = 1; number <= 255; number++) puts(twimbor_refusal_text(number));
     for (unsigned code = 0; code <= 255; code++) putchar(twimbor_key_character(code));
 }";
-    let path = concat!(env!("CARGO_TARGET_TMPDIR"), "/words.c");
-    let program = concat!(env!("CARGO_TARGET_TMPDIR"), "/words");
-    fs::write(path, format!("#include \"{HEADER}\"\n#include <stdio.h>\n{main}\n")).unwrap();
-    compile(&[path, "-o", program]);
+    let version = env!("CARGO_PKG_VERSION");
+    let number = version.split('.').fold(0, |n, digits| 1000 * n + digits.parse::<u32>().unwrap());
     let [from_0, from_64, from_128, from_192] = Codes::KEYS.into();
     let keys = format!("{from_0:x} {from_64:x} {from_128:x} {from_192:x}");
-    let mut expected = format!("{}\n{keys}\n", env!("CARGO_PKG_VERSION"));
+    let mut expected = format!("{version} {number}\n{keys}\n");
     for number in 1..=255 {
         expected += &format!("{}\n", Refusal::try_from(number).unwrap_or(Refusal::Unknown));
     }
     expected.extend((0..=255).map(|code| Event { code, ..Event::default() }.key()));
-    let printed = Command::new(program).output().unwrap().stdout;
-    assert_eq!(String::from_utf8_lossy(&printed), expected);
+    assert_eq!(printed_by_c("words", say, "    say(TWIMBOR_KEYS);\n"), expected);
 }
 
 /// What the header's functions say of an entry, and what this crate says.

@@ -1,118 +1,24 @@
--- The laws of writing a redundant packet: the ranges of refusal 12 test by test, its pieces, and the ways through the call.
-use Prim.Native.Nat.{ℕ, zero, suc, _+_, _*_, _/_, _%_, _≤_, _<_}
-use mathlib.Core.Path.{_≡_, refl, sym, _∙_, ap, subst}
-use mathlib.Core.Bool.{Bool, true, false, not, _&&_}
+-- The laws of writing a redundant packet: what the tests of refusal 12 leave, all pieces together, and the ways through the call.
+use Prim.Native.Nat.{ℕ, zero, suc, _+_, _*_, _≤_, _<_}
+use mathlib.Core.Path.{_≡_, refl, sym, _∙_, subst}
+use mathlib.Core.Bool.{Bool, true, false, not}
 use mathlib.Core.List.{List, [], _∷_}
 use native.Mathlib.Omega.{arith}
 use borrow.Author.Needs.{needs}
-use borrow.Author.Tests.{lt-leb, le-leb, lt-ltb, le-ltb, not-true, not-false}
-use lib.Dec.{leb, eqb}
-use lib.ListN.{length, set, length-set}
+use borrow.Author.Tests.{lt-ltb, le-ltb, not-true, not-false}
+use lib.ListN.{length}
 use Rattle.model.specs.declared.Codes.{Codes}
 use Rattle.model.specs.declared.Report.{Report}
-use Rattle.model.specs.Codes.{isIn}
 use Rattle.model.specs.declared.OlderReport.{OlderReport}
-use Rattle.model.specs.Refusals.{answered, refusedBy}
-use Rattle.model.specs.Packet.{bit, headerBytes, payloadBytes, reportInRange}
-use Rattle.model.specs.Blocks.{headersOf, dataOf, headerOf}
-use Rattle.model.specs.Table.{typesDiffer, place}
-use Rattle.model.specs.WriteRedundant.{
-  offsetBefore,
-  olderWritten,
-  olderGiven,
-  olderInRange,
-  allOlderInRange,
-  redundantPacketOf,
-  redundantInRange,
-  writeRedundant,
-}
-use Rattle.model.specs.WrittenRedundant.{Writable}
-use Rattle.model.proofs.Basics.{and-then}
-use Rattle.model.proofs.Packets.{ranges, first-bytes}
-use Rattle.model.proofs.WrittenBlocks.{Tested, older-ranges, tested, packet-type, bytes-length}
+use Rattle.refusals.specs.Refusals.{answered, refusedBy}
+use Rattle.model.specs.Blocks.{headersOf, dataOf}
+use Rattle.model.specs.Table.{place}
+use Rattle.model.specs.WriteRedundant.{olderGiven, olderInRange, allOlderInRange, redundantPacketOf, redundantInRange, writeRedundant}
+use Rattle.refusals.proofs.Tests.{and-then}
+use Rattle.theorems.proofs.Packets.{ranges, first-bytes}
+use Rattle.theorems.proofs.WrittenBlocks.{Tested, older-ranges, tested, packet-type, bytes-length}
 use Rattle.writer.specs.Pieces.{putAt}
-use Rattle.block_writer.specs.BlockPieces.{OlderAsked, EndsAsked, BlocksAsked, olderPut, endsPut}
-
--- RANGES
-
-module _ (p q : ℕ) where
-  pub event-type-high : 127 < p → false ≡ typesDiffer p q
-  event-type-high h = rw (lt-leb p 127 h)
-
-  module _ (t : p ≤ 127) where
-    pub other-type-high : 127 < q → false ≡ typesDiffer p q
-    other-type-high h = rw (le-leb p 127 t, lt-leb q 127 h)
-
-    pub types-compared : q ≤ 127 → not (eqb p q) ≡ typesDiffer p q
-    types-compared h = rw (le-leb p 127 t, le-leb q 127 h)
-
-module _ (codes : Codes) (r : Report) (o : OlderReport) (b : Bool) (known : b ≡ isIn codes (o .code)) where
-  pub older-code-outside : not b ≡ true → false ≡ olderInRange codes r o
-  older-code-outside h = rw (← known, not-true b h)
-
-  module _ (k : not b ≡ false) where
-    pub older-volume-high : 63 < o .volume → false ≡ olderInRange codes r o
-    older-volume-high h = rw (← known, not-false b k, lt-leb (o .volume) 63 h)
-
-    module _ (v : o .volume ≤ 63) where
-      pub older-duration-none : o .duration < 1 → false ≡ olderInRange codes r o
-      older-duration-none h = rw (← known, not-false b k, le-leb (o .volume) 63 v, lt-leb 1 (o .duration) h)
-
-      module _ (d : 1 ≤ o .duration) where
-        pub older-duration-high : 65535 < o .duration → false ≡ olderInRange codes r o
-        older-duration-high h =
-            rw (← known, not-false b k, le-leb (o .volume) 63 v, le-leb 1 (o .duration) d, lt-leb (o .duration) 65535 h)
-
-        pub older-offset-tested : (n : ℕ) → o .duration ≤ 65535 → n ≡ offsetBefore r o → leb n 16383 ≡ olderInRange codes r o
-        older-offset-tested n h e =
-            rw (← known, not-false b k, le-leb (o .volume) 63 v, le-leb 1 (o .duration) d, le-leb (o .duration) 65535 h, e)
-
-and-last : (x : Bool) → x ≡ (x && true)
-and-last true = refl
-and-last false = refl
-
--- the older reports that are counted, one by one
-module _ (codes : Codes) (r : Report) (first second : OlderReport) where
-  pub none-counted : (count : ℕ) → count < 1 → true ≡ allOlderInRange codes r (olderGiven count first second)
-  unfolding allOlderInRange
-  none-counted zero h = refl
-  none-counted (suc n) h = absurd (omega arith)
-
-  module _ (b : Bool) (e : b ≡ olderInRange codes r first) where
-    pub first-refused : (count : ℕ) → 1 ≤ count → not b ≡ true → false ≡ allOlderInRange codes r (olderGiven count first second)
-    unfolding allOlderInRange
-    first-refused zero h k = absurd (omega arith)
-    first-refused (suc n) h k = rw (← e, not-true b k)
-
-    pub one-counted : (count : ℕ) → 1 ≤ count → not b ≡ false → count < 2 → true ≡ allOlderInRange codes r (olderGiven count first second)
-    unfolding allOlderInRange
-    one-counted zero h k l = absurd (omega arith)
-    one-counted (suc zero) h k l = rw (← e, not-false b k)
-    one-counted (suc (suc n)) h k l = absurd (omega arith)
-
-    pub two-counted : (count : ℕ) (d : Bool) → not b ≡ false → 2 ≤ count → d ≡ olderInRange codes r second
-        → d ≡ allOlderInRange codes r (olderGiven count first second)
-    unfolding allOlderInRange
-    two-counted zero d k l f = absurd (omega arith)
-    two-counted (suc zero) d k l f = absurd (omega arith)
-    two-counted (suc (suc zero)) d k l f = rw (← e, not-false b k, ← f) (and-last d)
-    two-counted (suc (suc (suc n))) d k l f = rw (← e, not-false b k, ← f) (and-last d)
-
-module _ (codes : Codes) (r : Report) (type count : ℕ) (first second : OlderReport) (b : Bool) (e : b ≡ reportInRange codes r) where
-  pub report-refused : not b ≡ true → false ≡ redundantInRange codes r type count first second
-  report-refused h = rw (← e, not-true b h)
-
-  module _ (h : not b ≡ false) (d : Bool) (f : d ≡ typesDiffer (r .«payload_type») type) where
-    pub types-refused : not d ≡ true → false ≡ redundantInRange codes r type count first second
-    types-refused k = rw (← e, ← f, not-false b h, not-true d k)
-
-    module _ (k : not d ≡ false) where
-      pub third-refused : 2 < count → false ≡ redundantInRange codes r type count first second
-      third-refused l = rw (← e, ← f, not-false b h, not-false d k, lt-leb count 2 l)
-
-      pub older-tested : (x : Bool) → count ≤ 2 → x ≡ allOlderInRange codes r (olderGiven count first second)
-          → x ≡ redundantInRange codes r type count first second
-      older-tested x l g = rw (← e, ← f, not-false b h, not-false d k, le-leb count 2 l, ← g)
+use Rattle.block_pieces.specs.Pieces.{OlderAsked, EndsAsked, BlocksAsked, olderPut, endsPut}
 
 -- WHAT THE TESTS LEAVE
 
@@ -166,38 +72,7 @@ module _ (r : Report) (type count : ℕ) (first second : OlderReport) (asked : B
   pub second-asked : 2 ≤ count → OlderAsked r second
   second-asked = asked .older-second
 
--- PIECES
-
-pub older-header-bytes : (r : Report) (o : OlderReport) (n marked top low high last : ℕ)
-    → n ≡ offsetBefore r o → marked ≡ bit true * 128 + r .«payload_type»
-    → top ≡ (n * 1024 + 4) / 65536 → low ≡ (n * 1024 + 4) % 65536 → high ≡ low / 256 % 256 → last ≡ low % 256
-    → marked ∷ top ∷ high ∷ last ∷ [] ≡ headerOf (olderWritten r o)
-older-header-bytes r o n marked top low high last a b c d e f = rw (b, c, e, f, d, a)
-
-pub older-put : (r : Report) (o : OlderReport) (i n : ℕ) (h before one after : List ℕ)
-    → h ≡ headerOf (olderWritten r o) → one ≡ putAt h (12 + 4 * i) before
-    → after ≡ putAt (payloadBytes (o .code) (o .ended) (o .volume) (o .duration)) (13 + 4 * n + 4 * i) one
-    → after ≡ olderPut r o i n before
-unfolding olderPut
-older-put r o i n h before one after a b c = c ∙ rw (b, a) refl
-
-pub ends-put : (r : Report) (type n last : ℕ) (before one after : List ℕ)
-    → one ≡ putAt (headerBytes r type) 0 before → last ≡ bit false * 128 + r .«payload_type»
-    → after ≡ putAt (payloadBytes (r .code) (r .ended) (r .volume) (r .duration)) (13 + 8 * n) (set one (12 + 4 * n) last)
-    → after ≡ endsPut r type n before
-unfolding endsPut
-ends-put r type n last before one after a b c =
-    let e : last ≡ r .«payload_type» = omega arith in
-    c ∙ rw (a, e) refl
-
--- a byte stored changes no length
-pub room-stays : (before l : List ℕ) (i x n : ℕ) → 17 + 8 * n ≤ length before → length l ≡ length before
-    → 13 + 8 * n + 4 ≤ length (set l i x)
-room-stays before l i x n h e = omega (arith, length-set l i x)
-
-pub length-stays : (before l after : List ℕ) (i x : ℕ) → length l ≡ length before → length after ≡ length (set l i x)
-    → length after ≡ length before
-length-stays before l after i x a b = b ∙ length-set l i x ∙ a
+-- ALL PIECES
 
 -- In an output whose first bytes are named one by one the pieces come to the packet.
 module _ (r : Report) (type : ℕ) (first second : OlderReport) (output : List ℕ) where
@@ -282,31 +157,10 @@ module _ (codes : Codes) (r : Report) (type count : ℕ) (first second : OlderRe
 
 pub ruleset writing-blocks = (
   needs,
-  event-type-high,
-  other-type-high,
-  types-compared,
-  older-code-outside,
-  older-volume-high,
-  older-duration-none,
-  older-duration-high,
-  older-offset-tested,
-  none-counted,
-  first-refused,
-  one-counted,
-  two-counted,
-  report-refused,
-  types-refused,
-  third-refused,
-  older-tested,
   at-most-two,
   ends-asked,
   first-asked,
   second-asked,
-  older-header-bytes,
-  older-put,
-  ends-put,
-  room-stays,
-  length-stays,
   alone-there,
   one-there,
   two-there,

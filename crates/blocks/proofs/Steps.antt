@@ -1,7 +1,7 @@
 -- Each way through the definition of a step and of a walk's start.
 use Prim.Native.Nat.{ℕ, _+_, _-_, _%_, _≤_, _<_, min}
 use mathlib.Core.Path.{_≡_, refl, sym, _∙_, ap}
-use mathlib.Core.Bool.{Bool, true, false}
+use mathlib.Core.Bool.{Bool, true, false, cond}
 use mathlib.Core.List.{List, [], _∷_}
 use native.Mathlib.Omega.{arith}
 use borrow.Author.Needs.{needs}
@@ -14,16 +14,17 @@ use Rattle.model.specs.declared.WalkStart.{WalkStart}
 use Rattle.model.specs.declared.BlockStep.{BlockStep}
 use Rattle.model.specs.Packet.{byte, afterHeader, payload, headerRefusal}
 use Rattle.model.specs.Blocks.{another, blockHeader, lastHeader, blocksRefusal}
-use Rattle.model.specs.Walk.{cursor, payloadEnds, walkRefusal, walkStart, noBlock, fromHeader, blockStep, partOf}
-use Rattle.model.proofs.Walks.{no-header, last-step, older-step, length-part}
-use Rattle.packet.specs.declared.header.Header.{Header}
-use Rattle.packet.specs.declared.header.Header.the-variants as header
-use Rattle.packet.specs.Stages.{headerOf, refusalOfHeader}
-use Rattle.packet.proofs.Laws.{refused-says, found-says, starts-before-end, ends-within, payload-there}
-use Rattle.blocks.specs.declared.headers.Scanned.{Scanned}
-use Rattle.blocks.specs.Headers.{offsetAt, lengthAt, scanIn, scanOf}
-use Rattle.blocks.specs.Start.{refusedStart}
-use Rattle.blocks.proofs.Scanning.{says-refusal, says-body}
+use Rattle.model.specs.Walk.{cursor, payloadEnds, walkRefusal, walkStart, noBlock, fromHeader, primaryStep, blockStep, headerStep, partOf}
+use Rattle.theorems.proofs.Walks.{no-header, last-step, older-step, length-said, length-part}
+use Rattle.header.specs.declared.Header.{Header}
+use Rattle.header.specs.declared.Header.the-variants as header
+use Rattle.header.specs.Stage.{headerOf, refusalOfHeader}
+use Rattle.header.proofs.Laws.{refused-says, found-says, starts-before-end, ends-within, payload-there}
+use Rattle.block_headers.specs.declared.Scanned.{Scanned}
+use Rattle.block_fields.specs.Fields.{offsetAt, lengthAt}
+use Rattle.block_headers.specs.Headers.{scanIn, scanOf}
+use Rattle.blocks.specs.Start.{Short, refusedStart}
+use Rattle.block_headers.proofs.Scanning.{says-refusal, says-body}
 
 -- A STEP
 
@@ -43,16 +44,9 @@ module _ (bs : List ℕ) (c : Cursor) (end : c .end ≤ length bs) (start : c .h
   first : byte (fromHeader bs c) 0 ≡ byte bs (c .header)
   first = let none : c .header + 0 ≡ c .header = omega arith in getD-drop (c .header) bs 0 0 ∙ ap (byte bs) none
 
-  pub primary-there : byte bs (c .header) < 128 → record {
-    after = record { header = c .end; body = c .end; end = c .end };
-    start = c .body;
-    end = c .end;
-    offset = 0;
-    «payload_type» = byte bs (c .header);
-    primary = true;
-    found = true;
-  } ≡ blockStep bs c
-  primary-there low = sym (last-step bs c end start body (lt-leb 128 (byte (fromHeader bs c) 0) (omega (arith, first))) ∙ rw first)
+  pub primary-there : byte bs (c .header) < 128 → (s : BlockStep) → s ≡ primaryStep c (byte bs (c .header)) → s ≡ blockStep bs c
+  primary-there low s is =
+      is ∙ sym (last-step bs c end start body (lt-leb 128 (byte (fromHeader bs c) 0) (omega (arith, first))) ∙ rw first)
 
   module _ (high : 128 ≤ byte bs (c .header)) where
     more : another (fromHeader bs c) ≡ true
@@ -94,6 +88,34 @@ module _ (bs : List ℕ) (c : Cursor) (end : c .end ≤ length bs) (start : c .h
       unfolding lengthAt offsetAt
       older-there h o is-o =
           sym (older-step bs c end start body more four (omega (arith, is-l)) ∙ rw (is-l, is-o, first))
+
+-- IN FEWER NUMBERS
+
+pub older-ordered : (primary : Bool) (start end : ℕ) → Short primary start end → primary ≡ false → start ≤ end
+older-ordered primary start end w e = w .ordered e
+
+pub older-fits : (primary : Bool) (start end : ℕ) → Short primary start end → primary ≡ false → end - start < 65536
+older-fits primary start end w e = omega (arith, w .few e)
+
+pub said-primary : (primary : Bool) (n : ℕ) → primary ≡ true → 0 ≡ cond primary 0 n
+said-primary primary n e = rw e
+
+pub said-older : (primary : Bool) (n : ℕ) → primary ≡ false → n ≡ cond primary 0 n
+said-older primary n e = rw e
+
+module _ (bs : List ℕ) (header body end : ℕ) (s : BlockStep) (is : s ≡ blockStep bs (cursor header body end)) where
+  pub short : Short (s .primary) (s .start) (s .end)
+  short = rw is (record { ordered = λ e. length-said bs (cursor header body end) e .0; few = λ e. length-said bs (cursor header body end) e .1 })
+
+  pub in-fewer : (n : ℕ) → n ≡ cond (s .primary) 0 (s .end - s .start) → record {
+    next = s .after .header;
+    length = n;
+    offset = s .offset;
+    «payload_type» = s .«payload_type»;
+    primary = s .primary;
+    found = s .found;
+  } ≡ headerStep bs (cursor header body end)
+  in-fewer n e = rw (e, is)
 
 -- THE START
 
@@ -140,26 +162,6 @@ module _ (bs : List ℕ) (h : Header) (stage : h ≡ headerOf bs) where
           ∙ (λ i. record { cursor = record { header = from i; body = from i + lastHeader (payload bs) + 1; end = payloadEnds bs }; refusal = 0 })
           ∙ rw (found, none)
 
--- A PART
-
-module _ (bs : List ℕ) (start end to : ℕ) (is : to ≡ min end (length bs)) where
-  pub part-empty : to < start → [] ≡ partOf bs start end
-  part-empty h = sym (nothing (partOf bs start end) (omega (arith, is, length-take (end - start) (drop start bs), length-drop start bs)))
-    where
-      nothing : (l : List ℕ) → length l ≤ 0 → l ≡ []
-      nothing [] k = refl
-      nothing (x ∷ l) k = absurd (omega arith)
-
-  pub part-there : start ≤ to → partOf bs start to ≡ partOf bs start end
-  part-there h = go (leb end (length bs)) refl
-    where
-      go : (b : Bool) → leb end (length bs) ≡ b → partOf bs start to ≡ partOf bs start end
-      go true e = let same : to ≡ end = omega (arith, is, leb-true) in rw same
-      go false e =
-          let long = length-drop start bs in
-          take-all (to - start) (drop start bs) (omega (arith, is, leb-false))
-          ∙ sym (take-all (end - start) (drop start bs) (omega (arith, leb-false)))
-
 pub ruleset stepping = (
   needs,
   end-outside,
@@ -169,11 +171,15 @@ pub ruleset stepping = (
   header-cut,
   data-cut,
   older-there,
+  older-ordered,
+  older-fits,
+  said-primary,
+  said-older,
+  short,
+  in-fewer,
   no-start,
   starts-before-end,
   ends-within,
   not-carried,
   started,
-  part-empty,
-  part-there,
 )

@@ -1,4 +1,2 @@
-// The blocks of a redundant packet (RFC 2198): its block headers read once, one block after another, and a walker over them.
-pub mod headers;
+// The blocks of a redundant packet (RFC 2198), one after another.
 pub mod step;
-pub mod walker;

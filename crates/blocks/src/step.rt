@@ -1,16 +1,19 @@
 // One block after another, from a cursor on.
+ghost use Prim.Native.Nat.{_-_};
+ghost use mathlib.Core.Bool.{cond};
 ghost use mathlib.Core.Path.{_≡_};
-ghost use Rattle.model.specs.Walk.{noBlock, blockStep, walkStart};
-ghost use Rattle.blocks.specs.Start.{refusedStart};
-use super::headers::length_at;
-use super::headers::offset_at;
-use super::headers::scan;
+ghost use Rattle.model.specs.Walk.{cursor, noBlock, primaryStep, blockStep, headerStep, walkStart};
+ghost use Rattle.blocks.specs.Start.{Short, refusedStart};
+use block_fields::length_at;
+use block_fields::offset_at;
+use block_headers::scan;
+use header::Header;
+use header::header_of;
+use header::header_refusal;
 use model::BlockStep;
 use model::Cursor;
+use model::HeaderStep;
 use model::WalkStart;
-use packet::header::Header;
-use packet::header::header_of;
-use packet::header::header_refusal;
 
 fn no_block(c: Cursor) -> BlockStep
     ensures { λ r. ⌜ r ≡ noBlock c ⌝ }
@@ -23,6 +26,25 @@ fn no_block(c: Cursor) -> BlockStep
         payload_type: 0,
         primary: false,
         found: false,
+    }
+}
+
+// The primary, whose data go to the payload's end: the last block of a packet, and a plain packet's one.
+pub fn primary_at(c: Cursor, payload_type: u8) -> BlockStep
+    ensures { λ r. ⌜ r ≡ primaryStep c «payload_type» ⌝ }
+{
+    BlockStep {
+        after: Cursor {
+            header: c.end,
+            body: c.end,
+            end: c.end,
+        },
+        start: c.body,
+        end: c.end,
+        offset: 0,
+        payload_type: payload_type,
+        primary: true,
+        found: true,
     }
 }
 
@@ -42,19 +64,7 @@ pub fn block_step(s: &[u8], c: Cursor) -> BlockStep
     let header = c.header;
     let first = s[header];
     if first < 128 {
-        return BlockStep {
-            after: Cursor {
-                header: c.end,
-                body: c.end,
-                end: c.end,
-            },
-            start: c.body,
-            end: c.end,
-            offset: 0,
-            payload_type: first,
-            primary: true,
-            found: true,
-        };
+        return primary_at(c, first);
     }
     if c.end - header < 4 {
         return no_block(c);
@@ -75,6 +85,38 @@ pub fn block_step(s: &[u8], c: Cursor) -> BlockStep
         payload_type: first % 128,
         primary: false,
         found: true,
+    }
+}
+
+// What a header says of the length.
+fn length_said(primary: bool, start: usize, end: usize) -> u16
+    requires { ⌜ Short primary start end ⌝ }
+    ensures { λ r. ⌜ r ≡ cond primary 0 (end - start) ⌝ }
+{
+    if primary {
+        return 0;
+    }
+    (end - start) as u16
+}
+
+// The same from the cursor's numbers, and in fewer: all of them fit into registers.
+pub fn header_step(s: &[u8], header: usize, body: usize, end: usize) -> HeaderStep
+    ensures { λ r. ⌜ r ≡ headerStep (now (s .entry)) (cursor header body end) ⌝ }
+{
+    let c = Cursor {
+        header: header,
+        body: body,
+        end: end,
+    };
+    let step = block_step(s, c);
+    let after = step.after;
+    HeaderStep {
+        next: after.header,
+        length: length_said(step.primary, step.start, step.end),
+        offset: step.offset,
+        payload_type: step.payload_type,
+        primary: step.primary,
+        found: step.found,
     }
 }
 

@@ -17,30 +17,16 @@ use Rattle.model.specs.Table.{tableOf, holding, valid}
 use Rattle.model.specs.Receive.{receive, refuses}
 use Rattle.model.specs.Frames.{startsWhole, frameSize}
 use Rattle.model.specs.Capture.{Capturing, refusesPacked, receivingAll, receivingNone, receiveCapture, together}
-use Rattle.model.proofs.Frames.{at-least-2, cut-if}
-use Rattle.model.proofs.Captures.{all-if-valid, none-if-invalid, nothingMore, all-none, ofFrame, all-first, at-most-1, packed-once}
+use Rattle.theorems.proofs.Frames.{at-least-2, cut-if}
+use Rattle.theorems.proofs.Captures.{all-if-valid, none-if-invalid, nothingMore, all-none, ofFrame, all-first, at-most-1, packed-once}
 use Rattle.receive.specs.Receives.{Receives}
 use Rattle.framing.specs.declared.Frame.{Frame}
 use Rattle.framing.specs.declared.Frame.the-variants.{Whole, Rest}
 use Rattle.framing.specs.Frame.{frameAt}
 use Rattle.framing.proofs.Laws.{WholeAt, whole-there, no-whole-there}
-use Rattle.capture.specs.declared.Tally.{Tally}
-use Rattle.capture.specs.Steps.{uncounted, noneYet, Room, oneMore, captured, ReceivesAll}
-
--- COUNTING
-
-pub raised : (counts : Bool) (n : ℕ) → counts ≡ true → n + 1 ≡ n + bit counts
-raised counts n e = rw e
-
-pub not-raised : (counts : Bool) (n : ℕ) → counts ≡ false → n ≡ n + bit counts
-not-raised counts n e = rw e (omega arith)
-
-pub all-counted : (c : Tally) (got : Received) (end r p : ℕ)
-    → r ≡ c .refused + bit (not (eqb (got .refusal) 0)) → p ≡ c .packed + bit (eqb (got .refusal) 17)
-    → record { count = got .count; used = end; packets = c .packets + 1; refused = r; packed = p } ≡ oneMore c got end
-all-counted c got end r p y z = rw (y, z)
-
-pub ruleset counting = (needs, raised, not-raised, all-counted)
+use Rattle.tally.specs.declared.Tally.{Tally}
+use Rattle.tally.specs.Counts.{uncounted, noneYet, Room, oneMore, captured}
+use Rattle.capture.specs.Receives.{ReceivesAll}
 
 -- FRAME BY FRAME
 -- Together with what is left to receive, the tally so far comes to the answer to the whole buffer.

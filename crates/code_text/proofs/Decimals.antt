@@ -7,9 +7,11 @@ use native.Mathlib.Omega.{arith}
 use borrow.Author.Tests.{le-leb, lt-leb, lt-ltb, le-ltb, ne-eqb, leb-true, eqb-false, ltb-true, ltb-false, not-true}
 use lib.Dec.{eqb, leb, ltb}
 use lib.ListN.{length, getD}
-use Rattle.model.proofs.Basics.{and-then, and-both}
-use Rattle.code_text.specs.CodeText.{digit, decimal, isDigit, areDigits, followedBy, value, isNumber}
-use Rattle.code_text.proofs.Numbers.{grows, Numeral}
+use Rattle.refusals.proofs.Tests.{and-then, and-both}
+use Rattle.decimal.specs.Decimal.{digit, isDigit, areDigits, followedBy, value}
+use Rattle.code_text.specs.CodeText.{decimal, isNumber}
+use Rattle.decimal.proofs.Laws.{grows}
+use Rattle.code_text.proofs.Numbers.{Numeral}
 
 -- HOW MANY DIGITS
 

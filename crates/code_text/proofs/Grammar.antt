@@ -10,8 +10,9 @@ use lib.Dec.{eqb, leb}
 use lib.ListN.{length}
 use Rattle.model.specs.declared.Codes.{Codes}
 use Rattle.model.specs.Codes.{emptySet, setOf}
-use Rattle.model.specs.Refusals.{Told, answered, refusedBy}
-use Rattle.model.proofs.Basics.{and-then, and-both}
+use Rattle.refusals.specs.Refusals.{Told, answered, refusedBy}
+use Rattle.refusals.proofs.Tests.{and-then, and-both}
+use Rattle.decimal.specs.Decimal.{value}
 use Rattle.code_text.specs.CodeText.{
   comma,
   dash,
@@ -26,7 +27,6 @@ use Rattle.code_text.specs.CodeText.{
   Gives,
   split,
   isNumber,
-  value,
   rises,
   Piece,
   pieceOf,

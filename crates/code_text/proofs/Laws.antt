@@ -3,8 +3,7 @@ use borrow.Author.Needs.{needs}
 use Rattle.code_text.proofs.Numbers.{
   saying-starts,
   all-said,
-  no-digit-low,
-  no-digit-high,
+  no-digit-there,
   too-large,
   saying-on,
   no-digits,
@@ -13,22 +12,14 @@ use Rattle.code_text.proofs.Numbers.{
   no-leading-zero,
 }
 use Rattle.code_text.proofs.Pieces.{no-first-number, one-number, no-last-number, rising, not-rising}
-use Rattle.code_text.proofs.Ranges.{none-below, all-below, shifted-some, some-below, below-set, range-joined}
 use Rattle.code_text.proofs.Reading.{item-rises, item-small, reading-starts, all-read, outside, reading-on}
 use Rattle.code_text.proofs.Splits.{seeking-starts, end-met, separator-met, seeking-on}
 
 pub ruleset reading-codes = (
   needs,
-  none-below,
-  all-below,
-  shifted-some,
-  some-below,
-  below-set,
-  range-joined,
   saying-starts,
   all-said,
-  no-digit-low,
-  no-digit-high,
+  no-digit-there,
   too-large,
   saying-on,
   no-digits,

@@ -4,7 +4,6 @@ pub mod Joins
 pub mod Laws
 pub mod Numbers
 pub mod Pieces
-pub mod Ranges
 pub mod Reading
 pub mod Rows
 pub mod Splits

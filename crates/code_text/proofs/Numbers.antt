@@ -9,27 +9,15 @@ use borrow.Author.Tests.{lt-leb, le-leb, eq-eqb, ne-eqb, leb-true}
 use lib.Dec.{eqb, leb}
 use lib.ListN.{length, getD, drop, drop-of-length-le}
 use lib.Seq.{drop-cons}
-use Rattle.model.proofs.Basics.{and-then}
-use Rattle.code_text.specs.CodeText.{isDigit, areDigits, followedBy, value, isNumber}
+use Rattle.refusals.proofs.Tests.{and-then}
+use Rattle.decimal.specs.declared.Next.{Next}
+use Rattle.decimal.specs.declared.Next.the-variants.{Number, NoDigit, TooLarge}
+use Rattle.decimal.specs.Decimal.{isDigit, areDigits, followedBy, value, nextNumber}
+use Rattle.decimal.proofs.Laws.{grows, number-then, no-digit-then, too-large-then}
+use Rattle.code_text.specs.CodeText.{isNumber}
 use Rattle.code_text.specs.Steps.{valueAfter, numberOf}
 
 -- DIGITS
-
-module _ (b : ℕ) where
-  below : b < 48 → isDigit b ≡ false
-  below h = rw (lt-leb 48 b h)
-
-  above : 57 < b → isDigit b ≡ false
-  above h = rw (lt-leb b 57 h, and-false (leb 48 b))
-
-  between : 48 ≤ b → b ≤ 57 → isDigit b ≡ true
-  between l h = rw (le-leb 48 b l, le-leb b 57 h)
-
--- more digits make no number smaller
-pub grows : (n : ℕ) (ds : List ℕ) → n ≤ followedBy n ds
-unfolding followedBy
-grows n [] = omega arith
-grows n (d ∷ ds) = omega (arith, grows (n * 10 + (d - 48)) ds)
 
 too-large-after : (n : ℕ) (bs : List ℕ) → 255 < n → 256 ≡ valueAfter n bs
 unfolding valueAfter
@@ -57,23 +45,21 @@ module _ (bs : List ℕ) where
       unfolding valueAfter areDigits
       no-digit e = sym (rw (front, e)) ∙ w .rest
 
-      pub no-digit-low : b < 48 → 256 ≡ valueAfter 0 bs
-      no-digit-low h = no-digit (below b h)
+      goes : (m : ℕ) → m ≡ n * 10 + (b - 48) → isDigit b ≡ true → valueAfter m (drop (i + 1) bs) ≡ valueAfter 0 bs
+      unfolding valueAfter areDigits followedBy
+      goes m next e = sym (rw (front, e, next)) ∙ w .rest
 
-      pub no-digit-high : 57 < b → 256 ≡ valueAfter 0 bs
-      no-digit-high h = no-digit (above b h)
+      module _ (r : Next) (said : r ≡ nextNumber n b 255) where
+        pub no-digit-there : r ≡ NoDigit → 256 ≡ valueAfter 0 bs
+        no-digit-there e = no-digit (no-digit-then n b 255 r said e)
 
-      module _ (low : 48 ≤ b) (high : b ≤ 57) (m : ℕ) (next : m ≡ n * 10 + (b - 48)) where
-        goes : valueAfter m (drop (i + 1) bs) ≡ valueAfter 0 bs
-        unfolding valueAfter areDigits followedBy
-        goes = sym (rw (front, between b low high, next)) ∙ w .rest
+        pub too-large : r ≡ TooLarge → 256 ≡ valueAfter 0 bs
+        too-large e =
+            let t = too-large-then n b 255 r said e in
+            too-large-after (n * 10 + (b - 48)) (drop (i + 1) bs) (t .1) ∙ goes (n * 10 + (b - 48)) refl (t .0)
 
-        -- past 255, or any limit above it
-        pub too-large : (limit : ℕ) → limit < m → 255 ≤ limit → 256 ≡ valueAfter 0 bs
-        too-large limit h l = too-large-after m (drop (i + 1) bs) (omega arith) ∙ goes
-
-        pub saying-on : m ≤ 255 → Saying bs (i + 1) m
-        saying-on h = record { small = h; rest = goes }
+        pub saying-on : (m : ℕ) → r ≡ Number m → Saying bs (i + 1) m
+        saying-on m e = let f = number-then n b 255 r said m e in record { small = f .small; rest = goes m (f .is) (f .digit) }
 
 -- NUMBERS
 

@@ -8,9 +8,10 @@ use borrow.Author.Tests.{le-leb, lt-leb, lt-ltb, le-ltb, ne-eqb, leb-true, ltb-t
 use lib.Dec.{leb, ltb}
 use lib.ListN.{length, take, drop, length-drop}
 use lib.Seq.{take-all}
-use Rattle.model.proofs.Basics.{and-then, and-both}
+use Rattle.refusals.proofs.Tests.{and-then, and-both}
 use Rattle.code_text.specs.declared.Found.the-variants.{Range, Nothing}
-use Rattle.code_text.specs.CodeText.{isDigit, areDigits, isItem, isNumber, value, dash, split, rises, Piece, pieceOf}
+use Rattle.decimal.specs.Decimal.{isDigit, areDigits, value}
+use Rattle.code_text.specs.CodeText.{isItem, isNumber, dash, split, rises, Piece, pieceOf}
 use Rattle.code_text.specs.Steps.{lengthUpTo, Ends, numberOf, told, foundIn}
 use Rattle.code_text.proofs.Numbers.{numeral, no-number, is-number}
 use Rattle.code_text.proofs.Splits.{one-piece, left, from-start}

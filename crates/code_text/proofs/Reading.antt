@@ -9,13 +9,14 @@ use lib.Dec.{leb}
 use lib.ListN.{length, take, drop}
 use Rattle.model.specs.declared.Codes.{Codes}
 use Rattle.model.specs.Codes.{isIn, emptySet, setOf}
-use Rattle.model.specs.Refusals.{answered, refusedBy}
-use Rattle.model.proofs.Basics.{and-then}
-use Rattle.model.proofs.Sets.{in-set, same-set, empty-set, none-in-empty}
+use Rattle.refusals.specs.Refusals.{answered, refusedBy}
+use Rattle.refusals.proofs.Tests.{and-then}
+use Rattle.theorems.proofs.Sets.{in-set, same-set, empty-set, none-in-empty}
 use Rattle.code_text.specs.declared.Found.{Found}
 use Rattle.code_text.specs.declared.Found.the-variants.{Range, Nothing}
 use Rattle.code_text.specs.CodeText.{comma, dash, split, Piece, pieceOf, pieces, allGood, itemsOf, covered, readCodes}
-use Rattle.code_text.specs.Steps.{lengthUpTo, Ends, foundIn, withRange}
+use Rattle.code_ranges.specs.Ranges.{withRange}
+use Rattle.code_text.specs.Steps.{lengthUpTo, Ends, foundIn}
 use Rattle.code_text.proofs.Pieces.{found-nothing, found-range, good-is-item}
 use Rattle.code_text.proofs.Splits.{left, next-piece}
 

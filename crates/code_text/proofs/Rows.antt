@@ -4,8 +4,9 @@ use mathlib.Core.Path.{_≡_, refl}
 use mathlib.Core.List.{List, [], _∷_, map}
 use Rattle.model.specs.declared.Codes.{Codes}
 use Rattle.model.specs.Codes.{emptySet, word}
-use Rattle.model.specs.Refusals.{answered, refusedBy}
-use Rattle.code_text.specs.CodeText.{covered, joinedTo, split, areDigits, followedBy, pieceOf, allGood, itemsOf, readCodes}
+use Rattle.refusals.specs.Refusals.{answered, refusedBy}
+use Rattle.decimal.specs.Decimal.{areDigits, followedBy}
+use Rattle.code_text.specs.CodeText.{covered, joinedTo, split, pieceOf, allGood, itemsOf, readCodes}
 
 -- a set by its words
 abbrev codes : ℕ → ℕ → ℕ → ℕ → Codes

@@ -6,8 +6,9 @@ use mathlib.Core.Bool.{Bool, true, false, not, cond, _&&_, _||_}
 use mathlib.Core.List.{List, [], _∷_, _++_, map}
 use lib.Dec.{leb, ltb, eqb}
 use lib.ListN.{length, getD}
+use Rattle.decimal.specs.Decimal.{digit, areDigits, value, noZeroAhead}
 use Rattle.model.specs.declared.Codes.{Codes}
-use Rattle.model.specs.Refusals.{noCodes, none, _if_else_, Told, telling}
+use Rattle.refusals.specs.Refusals.{noCodes, none, _if_else_, Told, telling}
 use Rattle.model.specs.Codes.{emptySet, setOf}
 
 abbrev pub comma : ℕ
@@ -34,10 +35,6 @@ covered [] c = false
 covered (i ∷ is) c = (leb (i .first) c && leb c (i .last)) || covered is c
 
 -- THE TEXT AS IT IS WRITTEN
-
--- the character of one digit
-abbrev pub digit : ℕ → ℕ
-digit n = 48 + n
 
 -- a code in decimal without leading zeros: it has up to three digits
 unfoldable pub decimal : ℕ → List ℕ
@@ -79,25 +76,9 @@ unfoldable pub split : ℕ → List ℕ → List (List ℕ)
 split separator [] = [] ∷ []
 split separator (b ∷ bs) = cond (eqb b separator) ([] ∷ split separator bs) (joinedTo b (split separator bs))
 
--- the characters 0 to 9
-abbrev pub isDigit : ℕ → Bool
-isDigit b = leb 48 b && leb b 57
-
-unfoldable pub areDigits : List ℕ → Bool
-areDigits [] = true
-areDigits (b ∷ bs) = isDigit b && areDigits bs
-
--- the number that n becomes when digits follow it
-unfoldable pub followedBy : ℕ → List ℕ → ℕ
-followedBy n [] = n
-followedBy n (b ∷ bs) = followedBy (n * 10 + (b - 48)) bs
-
-abbrev pub value : List ℕ → ℕ
-value = followedBy 0
-
 -- one digit or more, a 0 first only if it is alone, and at most 255
 abbrev pub isNumber : List ℕ → Bool
-isNumber bs = (leb 1 (length bs) && areDigits bs) && ((leb (length bs) 1 || not (eqb (getD bs 0 0) 48)) && leb (value bs) 255)
+isNumber bs = (leb 1 (length bs) && areDigits bs) && (noZeroAhead (getD bs 0 0) (length bs) && leb (value bs) 255)
 
 -- a-b has a below b
 abbrev pub rises : ℕ → ℕ → Bool

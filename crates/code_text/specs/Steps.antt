@@ -5,11 +5,10 @@ use mathlib.Core.Bool.{cond, _&&_, _||_}
 use mathlib.Core.List.{List, [], _∷_}
 use lib.Dec.{eqb, leb, ltb}
 use lib.ListN.{length, drop}
-use Rattle.model.specs.declared.Codes.{Codes}
-use Rattle.model.specs.Codes.{isIn, setOf}
+use Rattle.decimal.specs.Decimal.{areDigits, followedBy, value}
 use Rattle.code_text.specs.declared.Found.{Found}
 use Rattle.code_text.specs.declared.Found.the-variants.{Range, Nothing}
-use Rattle.code_text.specs.CodeText.{areDigits, followedBy, isNumber, value, Piece, split, dash, pieceOf}
+use Rattle.code_text.specs.CodeText.{isNumber, Piece, split, dash, pieceOf}
 
 -- how many bytes stand before the first separator
 unfoldable pub lengthUpTo : ℕ → List ℕ → ℕ
@@ -35,10 +34,3 @@ told p = cond (p .good) (Range (p .item .first) (p .item .last)) Nothing
 
 unfoldable pub foundIn : List ℕ → Found
 foundIn bs = told (pieceOf (split dash bs))
-
--- the codes below n, and a set with the codes of a range besides
-unfoldable pub below : ℕ → Codes
-below n = setOf (λ c. ltb c n)
-
-unfoldable pub withRange : Codes → ℕ → ℕ → Codes
-withRange s first last = setOf (λ c. isIn s c || (leb first c && leb c last))

@@ -10,27 +10,16 @@ use lib.ListN.{length, take, drop, length-append}
 use lib.Seq.{take-nil}
 use Rattle.model.specs.declared.Codes.{Codes}
 use Rattle.model.specs.Codes.{isIn, isEmpty, codesIn}
-use Rattle.model.specs.Refusals.{answered, refusedBy}
-use Rattle.model.proofs.Sets.{Fits}
+use Rattle.refusals.specs.Refusals.{answered, refusedBy}
+use Rattle.theorems.proofs.Sets.{Fits}
 use Rattle.code_text.specs.CodeText.{Item, othersText, textOf}
 use Rattle.writer.specs.Pieces.{putAt}
 use Rattle.code_writer.specs.CodesWritten.{ranges, writtenText, writeCodes}
-use Rattle.code_writer.specs.Steps.{rangesFrom, Next, Ends, Puts, rangeText, rangesText}
+use Rattle.item_writer.specs.Items.{Puts, rangeText}
+use Rattle.code_writer.specs.Steps.{rangesFrom, Next, Ends, rangesText}
 use Rattle.code_writer.proofs.Longest.{at-most-610, one-comma-less}
-use Rattle.code_writer.proofs.Putting.{
-  one-digit-fits,
-  one-digit-put,
-  two-digits-fit,
-  two-digits-put,
-  three-digits-fit,
-  three-digits-put,
-  first-fits,
-  one-code-put,
-  last-fits,
-  range-put,
-}
 use Rattle.code_writer.proofs.Unique.{some-range}
-use Rattle.code_writer.proofs.Walking.{
+use Rattle.code_writer.proofs.Upward.{
   nothing-left,
   seeking-starts,
   sought,
@@ -165,16 +154,6 @@ pub ruleset writing-codes = (
   ended,
   running-on,
   ended-at-255,
-  one-digit-fits,
-  one-digit-put,
-  two-digits-fit,
-  two-digits-put,
-  three-digits-fit,
-  three-digits-put,
-  first-fits,
-  one-code-put,
-  last-fits,
-  range-put,
   listing-starts,
   first-in-set,
   range-fits,

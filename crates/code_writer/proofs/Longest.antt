@@ -13,7 +13,8 @@ use Rattle.model.specs.declared.Codes.{Codes}
 use Rattle.model.specs.Codes.{isIn, among, word, setOf, codesIn}
 use Rattle.code_text.specs.CodeText.{Item, decimal, itemText, othersText, textOf}
 use Rattle.code_writer.specs.CodesWritten.{withCode, ranges, writtenText}
-use Rattle.code_writer.specs.Steps.{rangeText, rangesText}
+use Rattle.item_writer.specs.Items.{rangeText}
+use Rattle.code_writer.specs.Steps.{rangesText}
 use Rattle.code_writer.proofs.Rising.{Rising, ranges-rise}
 
 -- 1 for a number that is t or above

@@ -9,10 +9,10 @@ use borrow.Author.Tests.{eqb-true, eqb-false, leb-true, lt-leb, le-leb, ltb-true
 use lib.Dec.{eqb, leb}
 use Rattle.model.specs.declared.Codes.{Codes}
 use Rattle.model.specs.Codes.{isIn, among}
-use Rattle.model.proofs.Basics.{and-then}
+use Rattle.refusals.proofs.Tests.{and-then}
 use Rattle.code_text.specs.CodeText.{Item, isItem, areItems, covered}
 use Rattle.code_writer.specs.CodesWritten.{liesApart, apart, adjoins, withCode, ranges}
-use Rattle.code_writer.specs.Steps.{range}
+use Rattle.item_writer.specs.Items.{range}
 
 -- each item begins at c or above and ends two or more below the next
 abbrev pub Rising : ℕ → List Item → Type 0

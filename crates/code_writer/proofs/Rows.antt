@@ -4,7 +4,7 @@ use mathlib.Core.Path.{_≡_, refl}
 use mathlib.Core.List.{[], _∷_}
 use Rattle.model.specs.declared.Codes.{Codes}
 use Rattle.model.specs.Codes.{isIn, among, emptySet}
-use Rattle.model.specs.Refusals.{answered, refusedBy}
+use Rattle.refusals.specs.Refusals.{answered, refusedBy}
 use Rattle.code_text.specs.CodeText.{decimal, othersText, textOf}
 use Rattle.code_writer.specs.CodesWritten.{withCode, ranges, writtenText, writeCodes}
 

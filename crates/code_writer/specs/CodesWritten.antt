@@ -6,7 +6,7 @@ use mathlib.Core.List.{List, [], _∷_}
 use lib.Dec.{ltb, eqb}
 use lib.ListN.{length}
 use Rattle.model.specs.declared.Codes.{Codes}
-use Rattle.model.specs.Refusals.{noCodes, outputTooSmall, none, _if_else_, Told, telling}
+use Rattle.refusals.specs.Refusals.{noCodes, outputTooSmall, none, _if_else_, Told, telling}
 use Rattle.model.specs.Codes.{isEmpty, codesIn, setOf}
 use Rattle.model.specs.Table.{place}
 use Rattle.code_text.specs.CodeText.{Item, areItems, covered, textOf}

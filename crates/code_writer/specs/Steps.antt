@@ -2,15 +2,12 @@
 use Prim.Native.Nat.{ℕ, _+_, _-_, _<_, _≤_}
 use mathlib.Core.Path.{_≡_}
 use mathlib.Core.Bool.{true}
-use mathlib.Core.List.{List, _∷_, _++_}
-use lib.ListN.{length, take}
+use mathlib.Core.List.{List, _∷_}
 use Rattle.model.specs.declared.Codes.{Codes}
 use Rattle.model.specs.Codes.{isIn, among, codesIn}
-use Rattle.code_text.specs.CodeText.{Item, comma, decimal, itemText, othersText}
+use Rattle.code_text.specs.CodeText.{Item, othersText}
+use Rattle.item_writer.specs.Items.{range}
 use Rattle.code_writer.specs.CodesWritten.{ranges}
-
-abbrev pub range : ℕ → ℕ → Item
-range first last = record { first = first; last = last }
 
 -- the ranges of the set's codes from code c on
 unfoldable pub rangesFrom : Codes → ℕ → List Item
@@ -29,19 +26,6 @@ pub record Ends (s : Codes) (first last : ℕ) : Type 0 where
   pub within : last ≤ 255
   pub left : rangesFrom s first ≡ range first last ∷ rangesFrom s (last + 1)
 
--- a separator and a number
-abbrev pub numberAfter : ℕ → ℕ → List ℕ
-numberAfter separator n = separator ∷ decimal n
-
--- a range with its comma before it
-abbrev pub rangeText : ℕ → ℕ → List ℕ
-rangeText first last = comma ∷ itemText (range first last)
-
 -- all ranges, each with its comma before it
 abbrev pub rangesText : Codes → List ℕ
 rangesText s = othersText (ranges (codesIn s))
-
--- the text stands at its place up to the end, and what stood before it stays
-pub record Puts (text : List ℕ) (at : ℕ) (before : List ℕ) (end : ℕ) (after : List ℕ) : Type 0 where
-  pub ends : end ≡ at + length text
-  pub so-far : take end after ≡ take at before ++ text

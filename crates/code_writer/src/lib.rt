@@ -5,9 +5,11 @@ ghost use Prim.Native.Nat.{_+_, _<_, _≤_};
 ghost use lib.ListN.{length};
 ghost use Rattle.model.specs.Codes.{isIn, toldText};
 ghost use Rattle.code_writer.specs.CodesWritten.{writeCodes};
-ghost use Rattle.code_writer.specs.Steps.{Next, Ends, Puts, numberAfter, rangeText, rangesText};
+ghost use Rattle.code_writer.specs.Steps.{Next, Ends, rangesText};
+ghost use Rattle.item_writer.specs.Items.{Puts};
 use codes::contains;
 use codes::is_empty;
+use item_writer::put_range;
 use model::Codes;
 use model::TextAnswer;
 use writer::put;
@@ -43,49 +45,6 @@ fn range_end(codes: Codes, first: u32) -> u32
     last
 }
 
-// The character of a digit.
-fn digit(n: u32) -> u8
-    requires { ⌜ n ≤ 9 ⌝ }
-    ensures { λ b. ⌜ b ≡ 48 + n ⌝ }
-{
-    (48 + n) as u8
-}
-
-// Puts a separator and a number at a place; answers the place after them.
-fn put_number(separator: u8, n: u32, at: usize, out: &mut [u8]) -> usize
-    requires { ⌜ n ≤ 255 ⌝ }
-    requires { ⌜ at + length (numberAfter separator n) ≤ length (now out) ⌝ }
-    ensures { λ end. ⌜ Puts (numberAfter separator n) at (now (out .entry)) end (now (out .exit)) ⌝ }
-{
-    if n < 10 {
-        let p = [separator, digit(n)];
-        put(&p, at, out);
-        return at + 2;
-    }
-    if n < 100 {
-        let p = [separator, digit(n / 10), digit(n % 10)];
-        put(&p, at, out);
-        return at + 3;
-    }
-    let p = [separator, digit(n / 100), digit(n / 10 % 10), digit(n % 10)];
-    put(&p, at, out);
-    at + 4
-}
-
-// Puts a range with its comma before it at a place; answers the place after it.
-fn put_range(first: u32, last: u32, at: usize, out: &mut [u8]) -> usize
-    requires { ⌜ first ≤ last ⌝ }
-    requires { ⌜ last ≤ 255 ⌝ }
-    requires { ⌜ at + length (rangeText first last) ≤ length (now out) ⌝ }
-    ensures { λ end. ⌜ Puts (rangeText first last) at (now (out .entry)) end (now (out .exit)) ⌝ }
-{
-    let middle = put_number(b',', first, at, out);
-    if first == last {
-        return middle;
-    }
-    put_number(b'-', last, middle, out)
-}
-
 // Puts all ranges, each with its comma before it; answers the place after them.
 fn put_ranges(codes: Codes, out: &mut [u8]) -> usize
     requires { ⌜ 610 ≤ length (now out) ⌝ }
@@ -107,14 +66,14 @@ pub fn write_codes(codes: Codes, out: &mut [u8]) -> TextAnswer
     ensures { λ a. ⌜ now (out .exit) ≡ writeCodes codes (now (out .entry)) .output ⌝ }
 {
     if is_empty(codes) {
-        return TextAnswer::Refused(model::NO_CODES);
+        return TextAnswer::Refused(refusals::NO_CODES);
     }
     // a text has at most 609 bytes; the comma before the first range is no part of it
     let mut text = [0u8; 610];
     let end = put_ranges(codes, &mut text);
     let n = end - 1;
     if out.len() < n {
-        return TextAnswer::Refused(model::OUTPUT_TOO_SMALL);
+        return TextAnswer::Refused(refusals::OUTPUT_TOO_SMALL);
     }
     put(&text[1..end], 0, out);
     TextAnswer::Written(n)

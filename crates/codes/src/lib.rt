@@ -123,5 +123,5 @@ pub fn lowest(codes: Codes) -> LowestAnswer
     if codes.from_192 != 0 {
         return LowestAnswer::Lowest(lowest_from(192, codes.from_192));
     }
-    LowestAnswer::Refused(model::NO_CODES)
+    LowestAnswer::Refused(refusals::NO_CODES)
 }

@@ -1,34 +1,40 @@
 // The events of a receiving table whose columns are lent: the event at a number, and what the list call answers.
 ghost use mathlib.Core.Path.{_≡_};
-ghost use mathlib.Core.Bool.{true};
 ghost use Prim.Native.Nat.{_<_};
-ghost use lib.ListN.{length, getD};
-ghost use Rattle.model.specs.Refusals.{toldEvent, noEvent};
-ghost use Rattle.model.specs.Table.{tableOf, valid};
-ghost use Rattle.model.specs.List.{events, eventAt, listAnswer};
+ghost use lib.ListN.{length};
+ghost use Rattle.model.specs.Answers.{toldEvent};
+ghost use Rattle.model.specs.Table.{tableOf};
+ghost use Rattle.model.specs.List.{eventAt, listAnswer};
+ghost use Rattle.grouping.specs.Places.{InRanges, eventsAfter};
+ghost use Rattle.events.specs.Numbers.{Finds};
 use grouping::begins_at;
 use grouping::count_of;
 use grouping::event_from;
-use model::Event;
 use model::EventAnswer;
 use model::Head;
 use model::Listed;
 
-// The event at number k, counted from 0, of a table that passes the tests: a walk to the segment that begins it.
-pub fn event_of<'a>(head: Head, keys: &'a [u64; 128], heard: &'a [u32; 128], k: usize) -> Event
-    requires { ⌜ valid (tableOf head (now keys) (now heard)) ≡ true ⌝ }
-    requires { ⌜ k < length (events (tableOf head (now keys) (now heard))) ⌝ }
-    ensures { λ r. ⌜ r ≡ getD (events (tableOf head (now (keys .entry)) (now (heard .entry)))) k noEvent ⌝ }
+// Of n places: the one where event k begins, counted from 0 among those that begin at the place `from` or later. Whoever goes on after
+// it finds the later ones.
+pub fn event_place<'a>(
+    keys: &'a [u64; 128],
+    heard: &'a [u32; 128],
+    n: usize,
+    from: usize,
+    k: usize,
+) -> usize
+    requires { ⌜ InRanges (now keys) (now heard) n ⌝ }
+    requires { ⌜ k < length (eventsAfter (now keys) (now heard) n from) ⌝ }
+    ensures { λ r. ⌜ Finds (now (keys .entry)) (now (heard .entry)) n from k r ⌝ }
 {
-    let n = head.count;
     let mut left = k;
-    let mut i = 0;
+    let mut i = from;
     loop {
         let place = i;
         i += 1;
         if begins_at(keys, heard, place) {
             if left == 0 {
-                return event_from(keys, heard, n, place);
+                return place;
             }
             left -= 1;
         }
@@ -40,17 +46,18 @@ pub fn event_at<'a>(head: Head, keys: &'a [u64; 128], heard: &'a [u32; 128], k: 
     ensures { λ r. ⌜ toldEvent r ≡ eventAt (tableOf head (now (keys .entry)) (now (heard .entry))) k ⌝ }
 {
     if !valid::is_valid(head, keys, heard) {
-        return EventAnswer::Refused(model::INVALID_TABLE);
+        return EventAnswer::Refused(refusals::INVALID_TABLE);
     }
     let number = k as usize;
     if number == 0 {
-        return EventAnswer::Refused(model::NO_SUCH_NUMBER);
+        return EventAnswer::Refused(refusals::NO_SUCH_NUMBER);
     }
     let n = count_of(keys, heard, head.count);
     if n < number {
-        return EventAnswer::Refused(model::NO_SUCH_NUMBER);
+        return EventAnswer::Refused(refusals::NO_SUCH_NUMBER);
     }
-    EventAnswer::Found(event_of(head, keys, heard, number - 1))
+    let place = event_place(keys, heard, head.count, 0, number - 1);
+    EventAnswer::Found(event_from(keys, heard, head.count, place))
 }
 
 // What the list call answers where `room` records are lent.
@@ -64,14 +71,14 @@ pub fn answer_for<'a>(
 {
     if !valid::is_valid(head, keys, heard) {
         return Listed {
-            refusal: model::INVALID_TABLE,
+            refusal: refusals::INVALID_TABLE,
             events: 0,
         };
     }
     let n = count_of(keys, heard, head.count);
     if room < n {
         return Listed {
-            refusal: model::LIST_TOO_SMALL,
+            refusal: refusals::LIST_TOO_SMALL,
             events: 0,
         };
     }

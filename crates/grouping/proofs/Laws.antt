@@ -1,7 +1,7 @@
 -- Each way through the definitions of Places, as a law over two columns and their places.
 use Prim.Native.Nat.{ℕ, suc, _+_, _-_, _*_, _≤_, _<_, _%_, min, max}
 use mathlib.Core.Path.{_≡_, refl, sym, _∙_, ap, ap₂}
-use mathlib.Core.Bool.{Bool, true, false, not, cond}
+use mathlib.Core.Bool.{Bool, true, false, not, cond, _&&_}
 use mathlib.Core.List.{List, [], _∷_}
 use native.Mathlib.Numerals.{add-one}
 use native.Mathlib.Omega.{arith}
@@ -14,42 +14,11 @@ use Rattle.model.specs.declared.Head.{Head}
 use Rattle.model.specs.declared.Event.{Event}
 use Rattle.model.specs.Table.{segmentAt, segmentsFrom, tableOf, valid}
 use Rattle.model.specs.Events.{units, loudest, quietest, lastEnded, eventOf, continues, continuesNearest, continuing, eventsFrom}
-use Rattle.model.proofs.Tables.{Passed, tests-passed, valid-then, valid-from}
-use Rattle.grouping.specs.Places.{InRanges, earlier, begins, later, lengthened, eventFrom, eventsIn}
+use Rattle.theorems.proofs.Tables.{Passed, tests-passed, valid-then, valid-from}
+use Rattle.joining.specs.Joining.{lengthened}
+use Rattle.grouping.specs.Places.{InRanges, earlier, begins, later, eventFrom, eventsAfter, eventsIn}
 
--- ONE SEGMENT AND THE NEXT
-
-pub by-end : (p s : Segment) → s .marked ≡ false → p .ended ≡ false → eqb (p .offset + p .duration) (s .offset) ≡ continues p s
-by-end p s unmarked unended = rw (unmarked, unended)
-
--- AN EVENT AND ONE SEGMENT MORE
-
-pub one : (s : Segment)
-    → record {
-      code = s .code;
-      start = s .offset;
-      length = s .duration;
-      volume = s .volume;
-      quietest = s .quietest;
-      began = s .marked;
-      ended = s .ended;
-    }
-    ≡ eventOf s []
-unfolding units loudest quietest lastEnded
-one s = refl
-
-pub more : (v : Event) (s : Segment) (m : ℕ) → m ≡ min (v .volume) (s .volume) → (q : ℕ) → q ≡ max (v .quietest) (s .quietest)
-    → record {
-      code = v .code;
-      start = v .start;
-      length = v .length + s .duration;
-      volume = m;
-      quietest = q;
-      began = v .began;
-      ended = s .ended;
-    }
-    ≡ lengthened v s
-more v s m e q f = rw (e, f)
+-- AN EVENT AND SEGMENTS THAT CONTINUE IT
 
 -- an event that segments continue, one after another
 abbrev pub grown : Event → List Segment → Event
@@ -89,7 +58,7 @@ unfolding units loudest quietest lastEnded
 grown-alone s [] = refl
 grown-alone s (t ∷ ts) = grown-by (eventOf s []) t ts
 
-cond-same : (b : Bool) {x y : Bool} → x ≡ false → y ≡ false → cond b x y ≡ false
+cond-same : {A : Type 0} (b : Bool) {x y z : A} → x ≡ z → y ≡ z → cond b x y ≡ z
 cond-same true e f = e
 cond-same false e f = f
 
@@ -98,6 +67,19 @@ marked-none : (l : List Segment) (s : Segment) → s .marked ≡ true → contin
 unfolding continuesNearest
 marked-none [] s h = refl
 marked-none (p ∷ ps) s h = cond-same (eqb (p .code) (s .code)) (rw h) (marked-none ps s h)
+
+-- nothing continues a segment with E
+ended-not : (p s : Segment) → p .ended ≡ true → continues p s ≡ false
+ended-not p s h = go (not (s .marked))
+  where
+    go : (b : Bool) → (b && (not (p .ended) && eqb (p .offset + p .duration) (s .offset))) ≡ false
+    go true = rw h
+    go false = refl
+
+ended-none : (s : Segment) (l : List Segment) → s .ended ≡ true → continuing s l ≡ []
+unfolding continuing
+ended-none s [] h = refl
+ended-none s (t ∷ ts) h = cond-same (eqb (s .code) (t .code)) (rw (ended-not s t h)) (ended-none s ts h)
 
 cond-not : {A : Type 0} (b : Bool) (x y : A) → cond b x y ≡ cond (not b) y x
 cond-not true x y = refl
@@ -199,6 +181,13 @@ module _ (keys heard : List ℕ) where
       event = rw (f, e) (grown-alone (segmentAt keys heard i) (continuing (segmentAt keys heard i) (later keys heard n i)));
     }
 
+    pub event-ended : (s : Segment) → s ≡ segmentAt keys heard i → s .ended ≡ true → (v : Event) → v ≡ eventOf s []
+        → v ≡ eventFrom keys heard n i
+    unfolding eventFrom
+    event-ended s e h v f =
+        f ∙ ap (λ (x : Segment). eventOf x []) e
+        ∙ ap (eventOf (segmentAt keys heard i)) (sym (ended-none (segmentAt keys heard i) (later keys heard n i) (rw e at h)))
+
     module _ (j : ℕ) (v : Event) (last : Segment) (w : Growing n i j v last) where
       pub event-ends : n ≤ j → v ≡ eventFrom keys heard n i
       unfolding continuing
@@ -242,37 +231,34 @@ module _ (keys heard : List ℕ) where
 
   -- THE EVENTS BY NUMBER
 
-  -- those that begin at place i or later
-  unfoldable pub eventsAfter : ℕ → ℕ → List Event
-  eventsAfter n i = eventsFrom (earlier keys heard i) (rest n i)
-
-  pub all-after : (n : ℕ) → eventsAfter n 0 ≡ eventsIn keys heard n
+  pub all-after : (n : ℕ) → eventsAfter keys heard n 0 ≡ eventsIn keys heard n
   unfolding earlier eventsAfter
   all-after n = let z : n - 0 ≡ n = omega arith in rw z
 
-  pub none-after : (n i : ℕ) → n ≤ i → eventsAfter n i ≡ []
+  pub none-after : (n i : ℕ) → n ≤ i → eventsAfter keys heard n i ≡ []
   unfolding eventsFrom eventsAfter
   none-after n i h = rw (none-left n i h)
 
   by-test : (n i : ℕ) → i < n
-      → eventsAfter n i ≡ cond (begins keys heard i) (eventFrom keys heard n i ∷ eventsAfter n (i + 1)) (eventsAfter n (i + 1))
+      → eventsAfter keys heard n i
+      ≡ cond (begins keys heard i) (eventFrom keys heard n i ∷ eventsAfter keys heard n (i + 1)) (eventsAfter keys heard n (i + 1))
   unfolding earlier begins eventFrom eventsFrom eventsAfter
   by-test n i h =
       rw (add-one i, first n i h, add-one i)
       (cond-not (continuesNearest (earlier keys heard i) (segmentAt keys heard i)) _ _)
 
   module _ (n i : ℕ) (h : i < n) (b : Bool) (is : b ≡ begins keys heard i) where
-    pub begun : b ≡ true → eventsAfter n i ≡ eventFrom keys heard n i ∷ eventsAfter n (i + 1)
+    pub begun : b ≡ true → eventsAfter keys heard n i ≡ eventFrom keys heard n i ∷ eventsAfter keys heard n (i + 1)
     begun e = rw (sym is ∙ e) at (by-test n i h)
 
-    pub passed : b ≡ false → eventsAfter n i ≡ eventsAfter n (i + 1)
+    pub passed : b ≡ false → eventsAfter keys heard n i ≡ eventsAfter keys heard n (i + 1)
     passed e = rw (sym is ∙ e) at (by-test n i h)
 
   -- `count` events begin before place i
   pub record Counting (n i count : ℕ) : Type 0 where
     pub reach : i ≤ n
     pub few : count ≤ i
-    pub sum : count + length (eventsAfter n i) ≡ length (eventsIn keys heard n)
+    pub sum : count + length (eventsAfter keys heard n i) ≡ length (eventsIn keys heard n)
 
   pub count-starts : (n : ℕ) → Counting n 0 0
   count-starts n = record { reach = omega arith; few = omega arith; sum = omega (arith, ap length (all-after n)) }
@@ -298,9 +284,6 @@ module _ (keys heard : List ℕ) where
 
 pub ruleset grouping = (
   needs,
-  by-end,
-  one,
-  more,
   fewer,
   look-marked,
   look-starts,
@@ -308,6 +291,7 @@ pub ruleset grouping = (
   look-passes,
   look-met,
   event-starts,
+  event-ended,
   event-ends,
   event-stops,
   count-starts,

@@ -1,25 +1,13 @@
 -- The events of two columns by the places of their segments: what the functions that go from place to place answer. They
 -- see the columns and how many places are held; a table's head plays no part.
-use Prim.Native.Nat.{ℕ, zero, suc, _+_, _-_, _≤_, _<_, min, max}
+use Prim.Native.Nat.{ℕ, zero, suc, _+_, _-_, _≤_, _<_}
 use mathlib.Core.Bool.{Bool, not}
 use mathlib.Core.List.{List, [], _∷_}
 use lib.ListN.{getD}
 use Rattle.model.specs.declared.Segment.{Segment}
 use Rattle.model.specs.declared.Event.{Event}
 use Rattle.model.specs.Table.{segmentAt, segmentsFrom}
-use Rattle.model.specs.Events.{eventOf, continuesNearest, continuing, eventsOf}
-
--- an event that one segment more continues
-abbrev pub lengthened : Event → Segment → Event
-lengthened v s = record {
-  code = v .code;
-  start = v .start;
-  length = v .length + s .duration;
-  volume = min (v .volume) (s .volume);
-  quietest = max (v .quietest) (s .quietest);
-  began = v .began;
-  ended = s .ended;
-}
+use Rattle.model.specs.Events.{eventOf, continuesNearest, continuing, eventsFrom, eventsOf}
 
 module _ (keys heard : List ℕ) where
   -- n places, at most 128, and the offset of the segment at each as wide as its type
@@ -43,6 +31,10 @@ module _ (keys heard : List ℕ) where
   -- the event that the segment at place i begins, among those of n places
   unfoldable pub eventFrom : ℕ → ℕ → Event
   eventFrom n i = eventOf (segmentAt keys heard i) (continuing (segmentAt keys heard i) (later n i))
+
+  -- of n places, the events that begin at place i or later
+  unfoldable pub eventsAfter : ℕ → ℕ → List Event
+  eventsAfter n i = eventsFrom (earlier i) (segmentsFrom keys heard i (n - i))
 
   -- the events of n places
   abbrev pub eventsIn : ℕ → List Event

@@ -3,23 +3,10 @@ ghost use mathlib.Core.Path.{_≡_};
 ghost use Prim.Native.Nat.{_+_};
 ghost use lib.ListN.{length};
 ghost use Rattle.model.specs.Table.{segmentAt};
-ghost use Rattle.model.specs.Events.{continues};
 ghost use Rattle.grouping.specs.Places.{InRanges, begins, eventsIn};
+use joining::continues;
 use model::Segment;
 use segment::segment_of;
-
-// Whether a segment s continues p, the nearest earlier one of its code.
-pub fn continues(p: Segment, s: Segment) -> bool
-    ensures { λ r. ⌜ r ≡ continues p s ⌝ }
-{
-    if s.marked {
-        return false;
-    }
-    if p.ended {
-        return false;
-    }
-    (p.offset as u64) + (p.duration as u64) == (s.offset as u64)
-}
 
 // The segment at place i.
 pub(crate) fn segment_at<'a>(keys: &'a [u64; 128], heard: &'a [u32; 128], i: usize) -> Segment

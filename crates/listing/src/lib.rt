@@ -5,9 +5,9 @@ ghost use mathlib.Core.Bool.{true};
 ghost use Rattle.model.specs.Table.{valid};
 
 mod faults;
-mod print;
 
 use model::Table;
+use printing::bad_session;
 use session::Session;
 use session::session_of;
 
@@ -24,15 +24,15 @@ fn list_into(t: Table, capture: i32)
         return;
     }
     let so_far = got.so_far;
-    print::listing(so_far, &keys, &heard);
+    printing::listing(so_far, &keys, &heard);
 }
 
 // Lists the keys of a capture for the three numbers of a session; numbers that open refuses are bad.
 fn list_session(payload_type: u32, ssrc: u32, origin: u32, capture: i32) {
-    let opened = table::open(codes::keys(), payload_type, ssrc, origin);
+    let opened = opening::open(codes::keys(), payload_type, ssrc, origin);
     if opened.refusal != 0 {
         faults::payload_type();
-        print::bad_session();
+        bad_session();
         return;
     }
     list_into(opened.table, capture);
@@ -49,7 +49,7 @@ fn list_text(text: &[u8], capture: i32) {
         } => list_session(payload_type, ssrc, origin, capture),
         Session::Bad { line, fault } => {
             faults::wrong_line(line, fault);
-            print::bad_session();
+            bad_session();
         }
     }
 }
@@ -57,10 +57,10 @@ fn list_text(text: &[u8], capture: i32) {
 // Lists the events of a capture, both given as open files; a session that is bad in any way, or no file, is `session=bad`.
 pub fn list_events(session: i32, capture: i32) {
     let mut text = [0u8; 64];
-    let got = pieces::read_full(session, &mut text);
+    let got = input::read_full(session, &mut text);
     if got.failed {
         faults::no_session();
-        print::bad_session();
+        bad_session();
         return;
     }
     let n = got.bytes;
@@ -72,7 +72,7 @@ pub fn run() {
     let session = os::open_read(b"session.txt");
     if session < 0 {
         faults::no_session();
-        print::bad_session();
+        bad_session();
         return;
     }
     // The lowest number is free only if standard input is closed.

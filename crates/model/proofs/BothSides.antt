@@ -13,12 +13,24 @@ use Rattle.model.specs.declared.Segment.{Segment}
 use Rattle.model.specs.declared.Table.{Table}
 use Rattle.model.specs.declared.Listed.{Listed}
 use Rattle.model.specs.Codes.{isIn, emptySet, theKeys}
-use Rattle.model.specs.Refusals.{Told, answered, refusedBy, toldWrite, toldCount, toldEvent}
+use Rattle.refusals.specs.Refusals.{Told, answered, refusedBy}
+use Rattle.model.specs.Answers.{toldWrite, toldCount, toldEvent}
 use Rattle.model.specs.declared.WriteAnswer.the-variants as writeAnswer
 use Rattle.model.specs.declared.CountAnswer.the-variants as countAnswer
 use Rattle.model.specs.declared.EventAnswer.the-variants as eventAnswer
 use Rattle.model.specs.Packet.{packetOf, reportInRange, write}
-use Rattle.model.specs.Plan.{segment, cutFrom, interim, reportsOfAll, markFirst, allOnWire, reports, reportAt, reportCount, writeReport}
+use Rattle.model.specs.Plan.{
+  segment,
+  cutFrom,
+  interim,
+  reportsOfAll,
+  markFirst,
+  allOnWire,
+  reports,
+  reportAt,
+  reportCount,
+  writeReport,
+}
 use Rattle.model.specs.Segments.{rising}
 use Rattle.model.specs.Table.{segmentsFrom, opened, validSegment, allValid, valid}
 use Rattle.model.specs.Events.{units, loudest, quietest, lastEnded, continuesNearest, continuing, eventsFrom}

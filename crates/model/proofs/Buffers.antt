@@ -1,5 +1,6 @@
 -- Buffers of frames and a capture, computed from the definitions. Beside each row stands what it must be.
 use Prim.Native.Nat.{ℕ}
+use lib.ListN.{take}
 use mathlib.Core.Path.{_≡_, refl}
 use mathlib.Core.List.{List, [], _∷_, _++_, map}
 use Rattle.model.specs.Codes.{isIn, theKeys}
@@ -7,7 +8,19 @@ use Rattle.model.specs.Packet.{afterHeader, payload, headerRefusal, payl
 use Rattle.model.specs.Segments.{rising}
 use Rattle.model.specs.Search.{middle, isSmaller, kept, searching}
 use Rattle.model.specs.Table.{segmentsFrom, oneType, emptyTable, allValid, valid, holds, put}
-use Rattle.model.specs.Receive.{heardBy, unheard, hearRefusal, probes, hear, arrivalIn, refusalFor, packetRefusal, receive, answers, tableAfter}
+use Rattle.model.specs.Receive.{
+  heardBy,
+  unheard,
+  hearRefusal,
+  probes,
+  hear,
+  arrivalIn,
+  refusalFor,
+  packetRefusal,
+  receive,
+  answers,
+  tableAfter,
+}
 use Rattle.model.specs.Frames.{frame, frames, frameSize, startsWhole, firstPacket, afterFirst, packetsWithin, packetsIn, used, rest}
 use Rattle.model.specs.Capture.{howMany, receivingAll, receivingNone, receiveCapture}
 
@@ -50,6 +63,11 @@ capture =
 pub counted : receiveCapture (emptyTable (oneType theKeys 101 7 0)) capture .answer ≡ record { refusal = 0; count = 1; used = 79; taken = 2; refused = 3; packed = 1 }
 unfolding isIn receiveCapture receivingAll howMany answers tableAfter used frames packetsIn packetsWithin startsWhole frameSize firstPacket afterFirst receive packetRefusal refusalFor hear hearRefusal unheard probes heardBy arrivalIn headerRefusal payloadRefusal payload afterHeader valid allValid rising segmentsFrom holds put searching kept middle isSmaller
 counted = refl
+
+-- the key's segment stands in the table then
+pub kept-in : take 1 (receiveCapture (emptyTable (oneType theKeys 101 7 0)) capture .table .keys) ≡ 4101 ∷ []
+unfolding isIn receiveCapture receivingAll tableAfter packetsIn packetsWithin startsWhole frameSize firstPacket afterFirst receive packetRefusal refusalFor hear hearRefusal unheard probes heardBy arrivalIn headerRefusal payloadRefusal payload afterHeader valid allValid rising segmentsFrom holds put searching kept middle isSmaller
+kept-in = refl
 
 pub part-left : rest capture ≡ 0 ∷ 2 ∷ 1 ∷ []
 unfolding rest used frames packetsIn packetsWithin startsWhole frameSize firstPacket afterFirst

@@ -10,7 +10,7 @@ use Rattle.model.specs.declared.Report.{Report}
 use Rattle.model.specs.declared.OlderReport.{OlderReport}
 use Rattle.model.specs.declared.Plan.{Plan}
 use Rattle.model.specs.declared.Table.{Table}
-use Rattle.model.specs.Refusals.{answered, refusedBy}
+use Rattle.refusals.specs.Refusals.{answered, refusedBy}
 use Rattle.model.specs.Codes.{isIn, emptySet, theKeys, among, countOf, lowestOf, word, setOf}
 use Rattle.model.specs.Packet.{afterHeader, payload, headerRefusal, payloadRefusal, packetOf, reportInRange, read, write}
 use Rattle.model.specs.Plan.{cutFrom, interim, reportsOfAll, markFirst, allOnWire, reports, reportAt, reportCount, writeReport}

@@ -13,10 +13,10 @@ use Rattle.model.specs.declared.Table.{Table}
 use Rattle.model.specs.declared.Received.{Received}
 use Rattle.model.specs.declared.Lookup.{Lookup}
 use Rattle.model.specs.Codes.{isIn, theKeys}
-use Rattle.model.specs.Refusals.{Told, answered, refusedBy}
+use Rattle.refusals.specs.Refusals.{Told, answered, refusedBy}
 use Rattle.model.specs.Packet.{afterHeader, payload, headerRefusal, payloadRefusal, read, packetOf}
 use Rattle.model.specs.Plan.{segment}
-use Rattle.model.specs.Segments.{rising}
+use Rattle.model.specs.Segments.{rising, samePair, merge}
 use Rattle.model.specs.Search.{middle, isSmaller, kept, searching, search}
 use Rattle.model.specs.Table.{segmentsFrom, opened, oneType, emptyTable, allValid, valid, holds, put}
 use Rattle.model.specs.Receive.{heardBy, unheard, hearRefusal, probes, hear, arrivalIn, refusalFor, packetRefusal, receive}
@@ -127,7 +127,7 @@ calls =
     ∷ ((table, at 15), 10)  -- offset 2^32 - 1
     ∷ ((table, at (16 + 0x7FFF_FFFF)), 0)  -- offset 2^31 - 1
     ∷ ((table, at (16 + 0x8000_0000)), 10)  -- offset 2^31
-    ∷ ((opened theKeys 100 7 16 .table, header 0x80 ++ (5 ∷ 0 ∷ 0 ∷ [])), 5)  -- 5 before 6 and 7
+    ∷ ((opened theKeys 100 8 16 .table, header 0x80 ++ (5 ∷ 0 ∷ 0 ∷ [])), 5)  -- 5 before 6 and 7
     ∷ ((opened theKeys 101 8 16 .table, header 0x80 ++ (5 ∷ 0 ∷ 0 ∷ [])), 6)  -- 6 before 7
     ∷ ((opened theKeys 101 8 16 .table, header 0x80 ++ (good ++ good)), 6)  -- 6 before 17
     ∷ ((table, header 0x80 ++ (good ++ good)), 17)
@@ -251,6 +251,20 @@ pub full-answers : map (λ row. receive full (row .0) .answer) full-calls ≡ ma
 unfolding isIn packetOf receive packetRefusal refusalFor hear hearRefusal unheard probes heardBy arrivalIn valid rising allValid segmentsFrom holds put headerRefusal afterHeader payload payloadRefusal middle isSmaller kept searching
 full-answers = refl
 
+-- TWO REPORTS OF ONE PAIR, and of two codes at one offset
+
+abbrev interim : Segment
+interim = segment 0 5 400 10 false false
+
+abbrev whole : Segment
+whole = segment 0 5 800 20 true true
+
+pub merged : merge interim whole ≡ record { offset = 0; code = 5; duration = 800; volume = 10; quietest = 20; ended = true; marked = true }
+merged = refl
+
+pub pairs : map (λ s. samePair interim s) (whole ∷ segment 0 6 400 10 false false ∷ segment 1 5 400 10 false false ∷ []) ≡ true ∷ false ∷ false ∷ []
+pairs = refl
+
 -- EVENTS
 
 -- by code, start, length, volume and quietest
@@ -270,6 +284,8 @@ segments =
       segment 0 5 65535 10 false true ∷ segment 0 6 65535 10 false false ∷ segment 65536 5 1 10 true false ∷ [],
       event 5 0 65535 10 10 true false ∷ event 6 0 65535 10 10 false false ∷ event 5 65536 1 10 10 false true ∷ [],
     )
+    -- a short segment that the next one continues
+    ∷ (segment 0 5 400 10 false true ∷ segment 400 5 100 10 true false ∷ [], event 5 0 500 10 10 true true ∷ [])
     ∷ []
 
 pub segments-list : map (λ row. eventsOf (row .0)) segments ≡ map (λ row. row .1) segments

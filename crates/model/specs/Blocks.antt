@@ -15,7 +15,7 @@ use mathlib.Core.Bool.{Bool, true, false, cond}
 use mathlib.Core.List.{List, [], _∷_, _++_, List·Memᴰ}
 use lib.Dec.{ltb, leb}
 use lib.ListN.{length, take, drop}
-use Rattle.model.specs.Refusals.{headersRunOut, blocksTooLong, none, _if_else_}
+use Rattle.refusals.specs.Refusals.{headersRunOut, blocksTooLong, none, _if_else_}
 use Rattle.model.specs.Packet.{byte, number16, bytes16}
 
 -- THE HEADERS

@@ -9,11 +9,11 @@ use lib.ListN.{drop}
 use Rattle.model.specs.declared.Table.{Table}
 use Rattle.model.specs.declared.Received.{Received}
 use Rattle.model.specs.declared.Captured.{Captured}
-use Rattle.model.specs.Refusals.{invalidTable, packed, none}
+use Rattle.refusals.specs.Refusals.{invalidTable, packed, none}
 use Rattle.model.specs.Packet.{bit}
 use Rattle.model.specs.Table.{valid}
 use Rattle.model.specs.Receive.{refuses, answers, tableAfter}
-use Rattle.model.specs.Sizes.{BytesFit}
+use Rattle.model.specs.Fits.{BytesFit}
 use Rattle.model.specs.Frames.{packetsIn, used}
 
 -- how many answers of a list pass a test

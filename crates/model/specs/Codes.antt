@@ -12,7 +12,7 @@ use Rattle.model.specs.declared.TextAnswer.{TextAnswer}
 use Rattle.model.specs.declared.CodesAnswer.the-variants as codesAnswer
 use Rattle.model.specs.declared.LowestAnswer.the-variants as lowestAnswer
 use Rattle.model.specs.declared.TextAnswer.the-variants as textAnswer
-use Rattle.model.specs.Refusals.{noCodes, none, _if_else_, Told, answered, refusedBy, telling}
+use Rattle.refusals.specs.Refusals.{noCodes, none, _if_else_, Told, answered, refusedBy, telling}
 
 abbrev pub wordAt : Codes → ℕ → ℕ
 wordAt s i = getD (s .«from_0» ∷ s .«from_64» ∷ s .«from_128» ∷ s .«from_192» ∷ []) i 0

@@ -1,6 +1,6 @@
 -- The receiving call (01, "The receiving table"; 02, request 4). A report is looked at only when the packet was read as far as
 -- its payload (none of 1 to 4); then come 5 and 6, then 17 or 7, and 8 to 11.
-use Prim.Native.Nat.{ℕ, _+_, _-_, _%_}
+use Prim.Native.Nat.{ℕ}
 use mathlib.Core.Bool.{Bool, false, not, cond}
 use mathlib.Core.List.{List, [], _∷_}
 use lib.Dec.{leb, eqb}
@@ -8,8 +8,21 @@ use Rattle.model.specs.declared.Segment.{Segment}
 use Rattle.model.specs.declared.Head.{Head}
 use Rattle.model.specs.declared.Table.{Table}
 use Rattle.model.specs.declared.Received.{Received}
-use Rattle.model.specs.Refusals.{otherPayloadType, otherSsrc, offsetTooLarge, tableFull, invalidTable, none, _if_else_, _orElse_}
-use Rattle.model.specs.Packet.{headerRefusal, payloadRefusal, payload, payloadType, marker, timestamp, ssrc, code, ended, volume, duration}
+use Rattle.refusals.specs.Refusals.{otherPayloadType, otherSsrc, offsetTooLarge, tableFull, invalidTable, none, _if_else_, _orElse_}
+use Rattle.model.specs.Packet.{
+  minus,
+  headerRefusal,
+  payloadRefusal,
+  payload,
+  payloadType,
+  marker,
+  timestamp,
+  ssrc,
+  code,
+  ended,
+  volume,
+  duration,
+}
 use Rattle.model.specs.Search.{search}
 use Rattle.model.specs.Table.{valid, held, holds, noRoom, taking}
 
@@ -17,7 +30,7 @@ use Rattle.model.specs.Table.{valid, held, holds, noRoom, taking}
 
 -- 01's term: a report's offset is (timestamp - origin) modulo 2^32
 abbrev pub offset : ℕ → ℕ → ℕ
-offset origin timestamp = (timestamp + 0x1_0000_0000 - origin) % 0x1_0000_0000
+offset origin timestamp = minus timestamp origin
 
 -- what a table is handed of a report: its own timestamp, whether it counts as marked, and its payload
 pub record Arrival : Type 0 where

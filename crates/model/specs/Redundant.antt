@@ -1,6 +1,6 @@
 -- Receiving packets that may be redundant (02, request 2): "a receiver that takes each block of the event's type at timestamp minus
 -- offset, in packet order, and passes over other types".
-use Prim.Native.Nat.{ℕ, _+_, _-_, _*_, _/_, _%_}
+use Prim.Native.Nat.{ℕ, _+_, _*_, _/_, _%_}
 use mathlib.Core.Bool.{Bool, not, cond, _&&_, _||_}
 use mathlib.Core.List.{List, [], _∷_, map}
 use lib.Dec.{ltb, eqb}
@@ -9,8 +9,8 @@ use Rattle.model.specs.declared.Head.{Head}
 use Rattle.model.specs.declared.Table.{Table}
 use Rattle.model.specs.declared.Received.{Received}
 use Rattle.model.specs.declared.BlocksReceived.{BlocksReceived}
-use Rattle.model.specs.Refusals.{otherPayloadType, otherSsrc, listTooSmall, invalidTable, none, _if_else_, _orElse_}
-use Rattle.model.specs.Packet.{bit, headerRefusal, payload, payloadType, marker, timestamp, ssrc}
+use Rattle.refusals.specs.Refusals.{otherPayloadType, otherSsrc, listTooSmall, invalidTable, none, _if_else_, _orElse_}
+use Rattle.model.specs.Packet.{bit, minus, headerRefusal, payload, payloadType, marker, timestamp, ssrc}
 use Rattle.model.specs.Blocks.{Block, blocksRefusal, blocks}
 use Rattle.model.specs.Table.{isForBoth, valid, place}
 use Rattle.model.specs.Receive.{Arrival, arrivalIn, hear}
@@ -32,7 +32,7 @@ ofType type (b ∷ bs) = cond (eqb (b .type) type) (b ∷ ofType type bs) (ofTyp
 -- a block's report: its timestamp is the packet's less the offset, modulo 2^32, and only the primary can count as marked
 abbrev pub arrivalOf : List ℕ → Block → Arrival
 arrivalOf bs b = record {
-  timestamp = (timestamp bs + 0x1_0000_0000 - b .offset) % 0x1_0000_0000;
+  timestamp = minus (timestamp bs) (b .offset);
   marked = marker bs && b .primary;
   payload = b .bytes;
 }

@@ -11,7 +11,7 @@ use Rattle.model.specs.declared.Segment.{Segment}
 use Rattle.model.specs.declared.Head.{Head}
 use Rattle.model.specs.declared.Table.{Table}
 use Rattle.model.specs.declared.Opened.{Opened}
-use Rattle.model.specs.Refusals.{outOfRange, none}
+use Rattle.refusals.specs.Refusals.{outOfRange, none}
 use Rattle.model.specs.Codes.{isIn, isEmpty, emptySet}
 use Rattle.model.specs.Packet.{bit}
 use Rattle.model.specs.Segments.{before, samePair, rising, merge}

@@ -9,7 +9,8 @@ use lib.ListN.{length, take, drop}
 use Rattle.model.specs.declared.Cursor.{Cursor}
 use Rattle.model.specs.declared.WalkStart.{WalkStart}
 use Rattle.model.specs.declared.BlockStep.{BlockStep}
-use Rattle.model.specs.Refusals.{none, _orElse_}
+use Rattle.model.specs.declared.HeaderStep.{HeaderStep}
+use Rattle.refusals.specs.Refusals.{none, _orElse_}
 use Rattle.model.specs.Packet.{byte, afterHeader, payload, headerRefusal}
 use Rattle.model.specs.Blocks.{BlockHeader, another, blockHeader, lastHeader, blocksRefusal, Block, blocks}
 
@@ -94,6 +95,40 @@ blockStep bs c =
     (cond (isWhole c (blockHeader (fromHeader bs c))) (olderStep c (blockHeader (fromHeader bs c))) (noBlock c))
     (primaryStep c (byte (fromHeader bs c) 0)))
     (noBlock c)
+
+-- THE SAME IN FEWER NUMBERS
+-- for a walker that keeps its cursor itself
+
+abbrev pub headerStep : List ℕ → Cursor → HeaderStep
+headerStep bs c = record {
+  next = blockStep bs c .after .header;
+  length = cond (blockStep bs c .primary) 0 (blockStep bs c .end - blockStep bs c .start);
+  offset = blockStep bs c .offset;
+  «payload_type» = blockStep bs c .«payload_type»;
+  primary = blockStep bs c .primary;
+  found = blockStep bs c .found;
+}
+
+-- where the data end, and the step again
+abbrev pub dataEnd : Cursor → HeaderStep → ℕ
+dataEnd c h = cond (h .primary) (c .end) (c .body + h .length)
+
+abbrev pub stepAgain : Cursor → HeaderStep → BlockStep
+stepAgain c h = cond (h .found) (record {
+  after = cursor (h .next) (dataEnd c h) (c .end);
+  start = c .body;
+  end = dataEnd c h;
+  offset = h .offset;
+  «payload_type» = h .«payload_type»;
+  primary = h .primary;
+  found = true;
+}) (noBlock c)
+
+-- nothing is lost
+abbrev pub SaysTheStep : Type 0
+SaysTheStep = (bs : List ℕ) (c : Cursor) → stepAgain c (headerStep bs c) ≡ blockStep bs c
+
+-- THE BLOCK
 
 -- the part of the packet that a step hands out
 abbrev pub partOf : List ℕ → ℕ → ℕ → List ℕ

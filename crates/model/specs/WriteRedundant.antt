@@ -1,6 +1,6 @@
 -- Writing a redundant packet (02, request 2): "a writer takes a report and up to two older ones, which stand before it in the order
 -- given". The event's type is the report's payload type; all blocks are of it.
-use Prim.Native.Nat.{ℕ, _+_, _-_, _%_}
+use Prim.Native.Nat.{ℕ}
 use mathlib.Core.Bool.{Bool, true, false, not, cond, _&&_}
 use mathlib.Core.List.{List, [], _∷_, _++_, map}
 use lib.Dec.{ltb, leb, eqb}
@@ -8,9 +8,9 @@ use lib.ListN.{length, take}
 use Rattle.model.specs.declared.Codes.{Codes}
 use Rattle.model.specs.declared.Report.{Report}
 use Rattle.model.specs.declared.OlderReport.{OlderReport}
-use Rattle.model.specs.Refusals.{outOfRange, outputTooSmall, none, _if_else_, telling}
+use Rattle.refusals.specs.Refusals.{outOfRange, outputTooSmall, none, _if_else_, telling}
 use Rattle.model.specs.Codes.{isIn}
-use Rattle.model.specs.Packet.{headerBytes, payloadBytes, reportInRange, Writing}
+use Rattle.model.specs.Packet.{minus, headerBytes, payloadBytes, reportInRange, Writing}
 use Rattle.model.specs.Table.{typesDiffer, place}
 use Rattle.model.specs.Blocks.{Block, primaryBlock, laidOut}
 
@@ -18,7 +18,7 @@ use Rattle.model.specs.Blocks.{Block, primaryBlock, laidOut}
 
 -- how much earlier an older report is, modulo 2^32
 abbrev pub offsetBefore : Report → OlderReport → ℕ
-offsetBefore r o = (r .timestamp + 0x1_0000_0000 - o .timestamp) % 0x1_0000_0000
+offsetBefore r o = minus (r .timestamp) (o .timestamp)
 
 abbrev pub olderWritten : Report → OlderReport → Block
 olderWritten r o = record {

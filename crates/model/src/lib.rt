@@ -1,4 +1,4 @@
-// The types of the library and the numbers of its refusals. What they mean stands in specs/; there is no function here.
+// The types of the library. What they mean stands in specs/; there is no function here.
 
 // A set of event codes, 0 to 255, a bit for each: the lowest bit of `from_0` is code 0, the highest of `from_192` code 255.
 #[repr(C)]
@@ -198,6 +198,19 @@ pub struct BlockStep {
     pub found: bool,
 }
 
+// The same step in fewer numbers, for a walker that keeps its cursor itself: where the next header stands, and what this one says. The
+// length is that of an older block's data; it is 0 for the primary, whose data go to the payload's end. If there are no more, `found` is
+// false, the place is as it was, and the others are zeros.
+#[repr(C)]
+pub struct HeaderStep {
+    pub next: usize,
+    pub length: u16,
+    pub offset: u16,
+    pub payload_type: u8,
+    pub primary: bool,
+    pub found: bool,
+}
+
 // What receiving a packet that may be redundant answers beside the columns and entries lent to it: refusal 0 and how many entries were
 // written, one for each block of the event's type, or the refusal's number and 0; and how many segments are held after it.
 #[repr(C)]
@@ -223,44 +236,3 @@ pub struct Listed {
     pub refusal: u8,
     pub events: usize,
 }
-
-// The numbers of the refusals; specs/Refusals.antt has their conditions.
-pub const TOO_SHORT: u8 = 1;
-
-pub const WRONG_VERSION: u8 = 2;
-
-pub const HEADER_PAST_END: u8 = 3;
-
-pub const BAD_PADDING: u8 = 4;
-
-pub const OTHER_PAYLOAD_TYPE: u8 = 5;
-
-pub const OTHER_SSRC: u8 = 6;
-
-pub const NOT_ONE_REPORT: u8 = 7;
-
-pub const CODE_NOT_IN_SET: u8 = 8;
-
-pub const NO_DURATION: u8 = 9;
-
-pub const OFFSET_TOO_LARGE: u8 = 10;
-
-pub const TABLE_FULL: u8 = 11;
-
-pub const OUT_OF_RANGE: u8 = 12;
-
-pub const NO_SUCH_NUMBER: u8 = 13;
-
-pub const OUTPUT_TOO_SMALL: u8 = 14;
-
-pub const LIST_TOO_SMALL: u8 = 15;
-
-pub const INVALID_TABLE: u8 = 16;
-
-pub const PACKED: u8 = 17;
-
-pub const HEADERS_RUN_OUT: u8 = 18;
-
-pub const BLOCKS_TOO_LONG: u8 = 19;
-
-pub const NO_CODES: u8 = 20;

@@ -14,13 +14,14 @@ use Rattle.model.specs.declared.Head.{Head}
 use Rattle.model.specs.declared.Table.{Table}
 use Rattle.model.specs.declared.Captured.{Captured}
 use Rattle.model.specs.Table.{tableOf, holding, valid}
-use Rattle.model.specs.Sizes.{BytesFit}
+use Rattle.model.specs.Fits.{BytesFit}
 use Rattle.model.specs.Capture.{Capturing, receiveCapture, together, unused}
-use Rattle.model.proofs.Packets.{bytes-fit, fits-parts}
-use Rattle.model.proofs.Captures.{captured-within, unused-short, of-empty, in-pieces}
+use Rattle.theorems.proofs.Packets.{bytes-fit, fits-parts}
+use Rattle.theorems.proofs.Captures.{captured-within, unused-short, of-empty, in-pieces}
 use Rattle.pieces.specs.declared.counts.Counts.{Counts}
 use Rattle.pieces.specs.declared.SoFar.{SoFar}
-use Rattle.pieces.specs.Input.{counted, added, Refills, Keeps, GoesOn, joined, HasReceived}
+use Rattle.pieces.specs.Input.{counted, added, GoesOn, joined, HasReceived}
+use Rattle.input.specs.Buffer.{Refills, Keeps}
 
 -- COUNTING
 

@@ -6,7 +6,7 @@ use lib.ListN.{length, take, drop}
 use Rattle.model.specs.declared.Table.{Table}
 use Rattle.model.specs.declared.Captured.{Captured}
 use Rattle.model.specs.Table.{tableOf}
-use Rattle.model.specs.Sizes.{BytesFit}
+use Rattle.model.specs.Fits.{BytesFit}
 use Rattle.model.specs.Capture.{receiveCapture, unused}
 use Rattle.pieces.specs.declared.counts.Counts.{Counts}
 use Rattle.pieces.specs.declared.SoFar.{SoFar}
@@ -23,20 +23,6 @@ added c a = record {
   refused = (c .refused + a .refused) % 2 ^ 64;
   packed = (c .packed + a .packed) % 2 ^ 64;
 }
-
--- THE BUFFER
-
--- a read puts n bytes behind the first ones, which stay
-pub record Refills (first : ℕ) (b : List ℕ) (n : ℕ) (b′ : List ℕ) : Type 0 where
-  pub same : length b′ ≡ length b
-  pub within : first + n ≤ length b′
-  pub stays : take first b′ ≡ take first b
-
--- of the first n bytes those from a place on stand at the front, so many of them
-pub record Keeps (at n : ℕ) (b : List ℕ) (many : ℕ) (b′ : List ℕ) : Type 0 where
-  pub same : length b′ ≡ length b
-  pub within : many ≤ length b′
-  pub front : take many b′ ≡ drop at (take n b)
 
 -- ONE PIECE
 -- The buffer's first n bytes are received, by one call on the table so far, and what it does not use stands at the front.

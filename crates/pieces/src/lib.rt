@@ -1,16 +1,18 @@
 // A capture, read in pieces into a buffer that stays the same, and received piece by piece.
 ghost use mathlib.Core.Path.{_≡_};
 ghost use mathlib.Core.Bool.{true};
-ghost use Prim.Native.Nat.{_≤_, _<_};
+ghost use Prim.Native.Nat.{_≤_};
 ghost use lib.ListN.{length};
 ghost use Rattle.model.specs.Table.{tableOf, valid};
-ghost use Rattle.pieces.specs.Input.{Refills, Keeps, GoesOn, HasReceived};
+ghost use Rattle.pieces.specs.Input.{GoesOn, HasReceived};
 
 mod counts;
 
 use capture::receive_capture;
 pub use counts::Counts;
 use counts::added;
+use input::keep;
+use input::refill;
 use model::Head;
 
 // What has been received: the head of the table whose columns are lent, the counts, and how many bytes of the input, at the front of
@@ -21,14 +23,8 @@ pub struct SoFar {
     pub left: usize,
 }
 
-// What a read gave: so many bytes, none at the end of the input, or it failed, and errno says why.
-pub struct Reading {
-    pub bytes: usize,
-    pub failed: bool,
-}
-
 // All that was received of an input, up to its end or to a read that failed.
-pub struct Heard {
+pub struct Arrived {
     pub so_far: SoFar,
     pub failed: bool,
 }
@@ -38,81 +34,6 @@ fn buffer() -> [u8; 131072]
     ensures { λ r. ⌜ 131072 ≡ length r ⌝ }
 {
     [0; 131072]
-}
-
-// Reads once; a read that a signal interrupts is made again.
-fn read_some(file: i32, room: &mut [u8]) -> Reading
-    ensures { λ r. ⌜ r .bytes ≤ length (now (room .exit)) ⌝ }
-{
-    let mut turns = u64::MAX;
-    while 0 < turns {
-        let got = libc::read(file, room);
-        if 0 <= got {
-            return Reading {
-                bytes: io::count(got, room),
-                failed: false,
-            };
-        }
-        if os::errno() != libc::EINTR {
-            return Reading {
-                bytes: 0,
-                failed: true,
-            };
-        }
-        turns -= 1;
-    }
-    Reading {
-        bytes: 0,
-        failed: true,
-    }
-}
-
-// Reads once into the buffer from a place on.
-fn refill(file: i32, b: &mut [u8], from: usize) -> Reading
-    requires { ⌜ from < length (now b) ⌝ }
-    ensures { λ r. ⌜ Refills from (now (b .entry)) (r .bytes) (now (b .exit)) ⌝ }
-{
-    let n = b.len();
-    read_some(file, &mut b[from..n])
-}
-
-// Reads until the buffer is full, the input ends or a read fails.
-pub fn read_full(file: i32, b: &mut [u8]) -> Reading
-    ensures { λ r. ⌜ r .bytes ≤ length (now (b .exit)) ⌝ }
-{
-    let mut done = 0usize;
-    while done < b.len() {
-        let got = refill(file, b, done);
-        if got.bytes == 0 {
-            return Reading {
-                bytes: done,
-                failed: got.failed,
-            };
-        }
-        done += got.bytes;
-    }
-    Reading {
-        bytes: done,
-        failed: false,
-    }
-}
-
-// Moves the bytes from place `at` up to n to the front, and answers how many they are. A long frame may come in many small pieces: then
-// none was used, and none is moved.
-fn keep(b: &mut [u8], at: usize, n: usize) -> usize
-    requires { ⌜ at ≤ n ⌝ }
-    requires { ⌜ n ≤ length (now b) ⌝ }
-    ensures { λ r. ⌜ Keeps at n (now (b .entry)) r (now (b .exit)) ⌝ }
-{
-    if at == 0 {
-        return n;
-    }
-    let mut i = at;
-    while i < n {
-        b[i - at] = b[i];
-        i += 1;
-    }
-    n - at
 }
 
 // Receives the buffer's first n bytes, and moves those that were not used to its front.
@@ -138,7 +59,7 @@ fn go_on(
 
 // Reads a capture, and receives its frames. What is left in the buffer after a pass is a part of one frame, so there
 // is always room to read more.
-pub fn received(head: Head, keys: &mut [u64; 128], heard: &mut [u32; 128], file: i32) -> Heard
+pub fn received(head: Head, keys: &mut [u64; 128], heard: &mut [u32; 128], file: i32) -> Arrived
     requires { ⌜ valid (tableOf head (now keys) (now heard)) ≡ true ⌝ }
     ensures { λ r. ⌜ HasReceived (tableOf head (now (keys .entry)) (now (heard .entry))) (r .«so_far») (now (keys .exit)) (now (heard .exit)) ⌝ }
 {
@@ -159,7 +80,7 @@ pub fn received(head: Head, keys: &mut [u64; 128], heard: &mut [u32; 128], file:
         let from = so_far.left;
         let got = refill(file, b, from);
         if got.bytes == 0 {
-            return Heard {
+            return Arrived {
                 so_far: so_far,
                 failed: got.failed,
             };
@@ -167,7 +88,7 @@ pub fn received(head: Head, keys: &mut [u64; 128], heard: &mut [u32; 128], file:
         so_far = go_on(so_far, keys, heard, b, from + got.bytes);
         turns -= 1;
     }
-    Heard {
+    Arrived {
         so_far: so_far,
         failed: true,
     }

@@ -11,13 +11,14 @@ use borrow.Author.Tests.{not-true, not-false}
 use Rattle.model.specs.declared.Codes.{Codes}
 use Rattle.model.specs.declared.Plan.{Plan}
 use Rattle.model.specs.declared.CountAnswer.the-variants.{Reports, Refused}
-use Rattle.model.specs.Refusals.{toldCount}
+use Rattle.model.specs.Answers.{toldCount}
 use Rattle.model.specs.Plan.{fullSegments, restUnits, lengthsInRange, planInRange, reportCount, reports}
-use Rattle.model.proofs.Sends.{length-ranges}
-use Rattle.plan.specs.Formula.{interimCount}
-use Rattle.plan.proofs.Laws.{length-reports}
-use Rattle.plan.proofs.Ranges.{passed, some-length, some-size, size-fits, few-full, in-ranges}
-use Rattle.plan.proofs.Places.{one-counted}
+use Rattle.theorems.proofs.Sends.{length-ranges}
+use Rattle.plan_formulas.specs.Formula.{interimCount}
+use Rattle.plan_formulas.proofs.Laws.{length-reports}
+use Rattle.plan_formulas.proofs.InRange.{some-length, some-size, size-fits, few-full, in-ranges}
+use Rattle.plan.proofs.Ranges.{passed}
+use Rattle.plan_formulas.proofs.Places.{one-counted}
 
 -- the reports of a segment
 pub few-more : (units period n m : ℕ) → n ≡ interimCount period units → m ≤ 3 → units ≤ 65535 → Fits w32 (n + m)

@@ -1,4 +1,4 @@
--- The ranges of a plan's numbers, test by test in the order of the code, and what is known of a plan that passes them.
+-- The ranges of a plan's numbers, test by test in the order of the code.
 use Prim.Native.Nat.{_<_, _≤_}
 use mathlib.Core.Path.{_≡_, sym, _∙_}
 use mathlib.Core.Bool.{Bool, true, false, not}
@@ -8,10 +8,8 @@ use borrow.Author.Tests.{le-leb, lt-leb, not-true, not-false}
 use Rattle.model.specs.declared.Codes.{Codes}
 use Rattle.model.specs.declared.Plan.{Plan}
 use Rattle.model.specs.Codes.{isIn}
-use Rattle.model.specs.Plan.{fullSegments, longest, lengthsInRange, planInRange}
-use Rattle.model.proofs.Cuts.{full-few}
-use Rattle.model.proofs.Sends.{length-ranges}
-use Rattle.model.proofs.Basics.{and-then}
+use Rattle.model.specs.Plan.{longest, lengthsInRange, planInRange}
+use Rattle.refusals.proofs.Tests.{and-then}
 
 module _ (p : Plan) where
   pub no-size : p .«segment_size» < 1 → false ≡ lengthsInRange p
@@ -57,27 +55,6 @@ passed codes p b tested h =
     let code = and-then (isIn codes (p .code)) _ (type .1) in
     and-then (leb (p .volume) 63) (lengthsInRange p) (code .1) .1
 
--- what is known of a plan whose lengths are in range
-module _ (p : Plan) (h : lengthsInRange p ≡ true) where
-  pub some-length : 1 ≤ p .length
-  some-length = length-ranges p h .some
-
-  pub some-size : 1 ≤ p .«segment_size»
-  some-size = length-ranges p h .wide
-
-  pub size-fits : p .«segment_size» ≤ 65535
-  size-fits = length-ranges p h .narrow
-
-  pub some-period : 1 ≤ p .period
-  some-period = length-ranges p h .often
-
-  pub period-fits : p .period ≤ 65535
-  period-fits = length-ranges p h .seldom
-
-  -- the segments before the last
-  pub few-full : fullSegments p ≤ 15
-  few-full = full-few p some-size (length-ranges p h .most)
-
 pub ruleset ranging = (
   needs,
   no-size,
@@ -91,5 +68,3 @@ pub ruleset ranging = (
   wrong-volume,
   by-lengths,
 )
-
-pub ruleset in-ranges = (needs, some-length, some-size, size-fits, some-period, period-fits)

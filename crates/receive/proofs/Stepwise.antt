@@ -11,15 +11,16 @@ use Rattle.model.specs.declared.Head.{Head}
 use Rattle.model.specs.declared.Received.{Received}
 use Rattle.model.specs.Packet.{headerRefusal, afterHeader, marker, payloadType, timestamp, ssrc}
 use Rattle.model.specs.Receive.{arrivalIn, refusalFor, refusedWith}
-use Rattle.model.proofs.Basics.{both-none}
-use Rattle.packet.specs.declared.header.Header.{Header}
-use Rattle.packet.specs.declared.header.Header.the-variants as header
-use Rattle.packet.specs.Stages.{payloadEnd, headerOf, refusalOfHeader}
-use Rattle.packet.proofs.Laws.{chose-first, chose-second, Found, found-says, refused-says, payload-there, header-whole, starts-before-end, ends-within}
+use Rattle.refusals.proofs.Tests.{both-none}
+use Rattle.header.specs.declared.Header.{Header}
+use Rattle.header.specs.declared.Header.the-variants as header
+use Rattle.header.specs.Stage.{payloadEnd, headerOf, refusalOfHeader}
+use Rattle.header.proofs.Laws.{Found, found-says, refused-says, payload-there, header-whole, starts-before-end, ends-within}
+use Rattle.refusals.proofs.Tests.{chose-first, chose-second}
 use Rattle.table.specs.Columns.{Takes}
-use Rattle.receive.specs.declared.hearing.Hearing.{Hearing}
-use Rattle.receive.specs.declared.hearing.Hearing.the-variants as hearing
-use Rattle.receive.specs.Sayings.{arrival, hearingOf}
+use Rattle.hearing.specs.declared.Hearing.{Hearing}
+use Rattle.hearing.specs.declared.Hearing.the-variants as hearing
+use Rattle.hearing.specs.Sayings.{arrival, hearingOf, refusalOfHearing}
 use Rattle.receive.specs.Steps.{headerFor, hearingIn, TakesHeard}
 
 -- THE HEADER OF A PACKET THAT IS THE TABLE'S
@@ -96,7 +97,11 @@ module _ (h : Head) (keys heard : List ℕ) (said : Hearing) where
       → TakesHeard h keys heard said a keys′ heard′
   took key told x a keys′ heard′ e = rw x (record { answer = e .answer; table = e .table })
 
-  pub not-heard : (n : ℕ) → said ≡ hearing.Refused n → (a : Received) → a ≡ refusedWith n (h .count) 0 → TakesHeard h keys heard said a keys heard
-  not-heard n x a e = rw x (record { answer = e; table = rw e })
+  pub not-heard : (n : ℕ) → said ≡ hearing.Refused n → (k : ℕ) → k ≡ refusalOfHearing said
+      → (a : Received) → a ≡ refusedWith k (h .count) 0 → TakesHeard h keys heard said a keys heard
+  not-heard n x k is a e =
+      let same : k ≡ n = is ∙ ap refusalOfHearing x in
+      let f : a ≡ refusedWith n (h .count) 0 = e ∙ ap (λ (m : ℕ). refusedWith m (h .count) 0) same in
+      rw x (record { answer = f; table = rw f })
 
 pub ruleset steps = (needs, not-read, other-type, other-source, for-it, header-whole, not-for-it, whole-header, ordered, within, heard-it)

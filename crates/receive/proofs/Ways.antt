@@ -29,18 +29,18 @@ use Rattle.model.specs.Receive.{
   packetRefusal,
   receive,
 }
-use Rattle.model.specs.Sizes.{BytesFit}
-use Rattle.model.proofs.Basics.{both-none}
-use Rattle.model.proofs.Sets.{in-below}
-use Rattle.model.proofs.Packets.{bytes-fit, payload-in-range}
-use Rattle.model.proofs.Numbers.{segment-back}
-use Rattle.model.proofs.Looks.{hears-with-8, looks-at-8}
-use Rattle.model.proofs.Entries.{hears-below-256, receives-below-256}
-use Rattle.model.proofs.Runs.{PayloadFits, packet-report-fits, hear-stays-valid, stays-valid}
+use Rattle.model.specs.Fits.{BytesFit}
+use Rattle.refusals.proofs.Tests.{both-none}
+use Rattle.theorems.proofs.Sets.{in-below}
+use Rattle.theorems.proofs.Packets.{bytes-fit, payload-in-range}
+use Rattle.theorems.proofs.Numbers.{segment-back}
+use Rattle.theorems.proofs.Looks.{hears-with-8, looks-at-8}
+use Rattle.theorems.proofs.Entries.{hears-below-256, receives-below-256}
+use Rattle.theorems.proofs.Runs.{PayloadFits, packet-report-fits, hear-stays-valid, stays-valid}
 use Rattle.table.specs.Columns.{Takes, takenInto}
-use Rattle.receive.specs.declared.hearing.Hearing.{Hearing}
-use Rattle.receive.specs.declared.hearing.Hearing.the-variants as hearing
-use Rattle.receive.specs.Sayings.{arrival, hearingOf}
+use Rattle.hearing.specs.declared.Hearing.{Hearing}
+use Rattle.hearing.specs.declared.Hearing.the-variants as hearing
+use Rattle.hearing.specs.Sayings.{arrival, hearingOf, refusalOfHearing}
 use Rattle.receive.specs.Steps.{hearingIn, takenHeard, TakesHeard, HearsTested}
 use Rattle.receive.specs.Receives.{Does, Receives, HearsInto}
 use Rattle.receive.proofs.Stepwise.{took, not-heard}
@@ -168,12 +168,13 @@ module _ (h : Head) (keys heard bs : List ℕ) where
       pub taken-probes : a .probes ≤ 8
       taken-probes = looked-at a keys′ heard′ (took h keys heard said key told x a keys′ heard′ e)
 
-    module _ (n : ℕ) (x : said ≡ hearing.Refused n) (a : Received) (e : a ≡ refusedWith n (h .count) 0) where
+    module _ (n : ℕ) (x : said ≡ hearing.Refused n) (k : ℕ) (is : k ≡ refusalOfHearing said)
+        (a : Received) (e : a ≡ refusedWith k (h .count) 0) where
       pub refused-answer : a ≡ receive table bs .answer
-      refused-answer = answer-is a keys heard (not-heard h keys heard said n x a e)
+      refused-answer = answer-is a keys heard (not-heard h keys heard said n x k is a e)
 
       pub refused-probes : a .probes ≤ 8
-      refused-probes = looked-at a keys heard (not-heard h keys heard said n x a e)
+      refused-probes = looked-at a keys heard (not-heard h keys heard said n x k is a e)
 
 pub ruleset ways = (
   needs,

@@ -1,3 +1,2 @@
-pub mod Sayings
 pub mod Steps
 pub mod Receives

@@ -7,7 +7,7 @@ use Rattle.model.specs.declared.Head.{Head}
 use Rattle.model.specs.declared.Received.{Received}
 use Rattle.model.specs.Table.{tableOf, holding, valid}
 use Rattle.model.specs.Receive.{Receiving, hear, receive}
-use Rattle.receive.specs.Sayings.{arrival}
+use Rattle.hearing.specs.Sayings.{arrival}
 
 -- it answers what the model says, leaves the table that the model says, this one passes the tests again, the search looks at no more
 -- than 8 entries, and the refusal's number fits in a byte

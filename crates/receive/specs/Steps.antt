@@ -7,17 +7,17 @@ use lib.Dec.{eqb}
 use Rattle.model.specs.declared.Head.{Head}
 use Rattle.model.specs.declared.Table.{Table}
 use Rattle.model.specs.declared.Received.{Received}
-use Rattle.model.specs.Refusals.{none}
+use Rattle.refusals.specs.Refusals.{none}
 use Rattle.model.specs.Packet.{afterHeader}
 use Rattle.model.specs.Table.{segmentOf, tableOf, holding, valid}
 use Rattle.model.specs.Receive.{arrivalIn, refusalFor, Receiving, refusing, receive}
-use Rattle.packet.specs.declared.header.Header.{Header}
-use Rattle.packet.specs.declared.header.Header.the-variants as header
-use Rattle.packet.specs.Stages.{payloadEnd}
+use Rattle.header.specs.declared.Header.{Header}
+use Rattle.header.specs.declared.Header.the-variants as header
+use Rattle.header.specs.Stage.{payloadEnd}
 use Rattle.table.specs.Columns.{takenInto}
-use Rattle.receive.specs.declared.hearing.Hearing.{Hearing}
-use Rattle.receive.specs.declared.hearing.Hearing.the-variants as hearing
-use Rattle.receive.specs.Sayings.{hearingOf}
+use Rattle.hearing.specs.declared.Hearing.{Hearing}
+use Rattle.hearing.specs.declared.Hearing.the-variants as hearing
+use Rattle.hearing.specs.Sayings.{hearingOf}
 
 -- 1 to 6
 unfoldable pub headerFor : Head → List ℕ → Header

@@ -1,4 +1,4 @@
-// The receiving call, in place on a table whose columns are lent. What was heard is taken in each of the three functions by itself: as a
+// The receiving call, in place on a table whose columns are lent. Each of the three functions takes apart what was heard by itself: as a
 // step of its own this is more than the compiler puts into them.
 ghost use Prim.Native.Nat.{_≤_};
 ghost use mathlib.Core.Path.{_≡_};
@@ -7,17 +7,18 @@ ghost use Rattle.model.specs.Table.{tableOf, holding, valid};
 ghost use Rattle.model.specs.Receive.{receive};
 ghost use Rattle.receive.specs.Receives.{Receives, HearsInto};
 
-pub mod hearing;
 mod steps;
 
 use hearing::Hearing;
 use hearing::hear;
+use hearing::hearing_refusal;
 use model::Head;
 use model::Received;
 use steps::header_for;
 use steps::hear_in;
 use steps::hear_tested;
 use table::refused;
+use table::take;
 
 // Hears a payload at its timestamp, marked or not, and takes it into a table that passes the tests, and leaves one that passes them;
 // or refuses it with 7 to 11 or 17, and the table is as it was.
@@ -34,10 +35,10 @@ pub fn hear_into(
         r (now (keys .exit)) (now (heard .exit)) ⌝ }
 {
     let said = hear(head, timestamp, marked, payload);
-    match said {
-        Hearing::Heard { key, told } => table::take(head, keys, heard, key, told),
-        Hearing::Refused(n) => refused(n, head.count),
-    }
+    let Hearing::Heard { key, told } = said else {
+        return refused(hearing_refusal(said), head.count);
+    };
+    take(head, keys, heard, key, told)
 }
 
 // Receives a packet into a table that passes the tests, and leaves one that passes them: its report is taken, or it is refused
@@ -53,10 +54,10 @@ pub fn receive_valid(
 {
     let found = header_for(head, packet);
     let said = hear_in(head, packet, found);
-    match said {
-        Hearing::Heard { key, told } => table::take(head, keys, heard, key, told),
-        Hearing::Refused(n) => refused(n, head.count),
-    }
+    let Hearing::Heard { key, told } = said else {
+        return refused(hearing_refusal(said), head.count);
+    };
+    take(head, keys, heard, key, told)
 }
 
 // Receives a packet: its report is taken into the table, or it is refused with 16, 1 to 11 or 17, and the table is as it
@@ -68,8 +69,8 @@ pub fn receive(head: Head, keys: &mut [u64; 128], heard: &mut [u32; 128], packet
     ensures { λ r. ⌜ r .probes ≤ 8 ⌝ }
 {
     let said = hear_tested(head, keys, heard, packet);
-    match said {
-        Hearing::Heard { key, told } => table::take(head, keys, heard, key, told),
-        Hearing::Refused(n) => refused(n, head.count),
-    }
+    let Hearing::Heard { key, told } = said else {
+        return refused(hearing_refusal(said), head.count);
+    };
+    take(head, keys, heard, key, told)
 }

@@ -3,15 +3,15 @@
 ghost use mathlib.Core.Path.{_≡_};
 ghost use Rattle.model.specs.Table.{tableOf, valid};
 ghost use Rattle.receive.specs.Steps.{headerFor, hearingIn, HearsTested};
-use super::hearing::Hearing;
-use super::hearing::hear;
+use header::Header;
+use header::header_of;
+use header::marker;
+use header::payload_type;
+use header::ssrc;
+use header::timestamp;
+use hearing::Hearing;
+use hearing::hear;
 use model::Head;
-use packet::header::Header;
-use packet::header::header_of;
-use packet::header::marker;
-use packet::header::payload_type;
-use packet::header::ssrc;
-use packet::header::timestamp;
 
 // Whether the table passes the tests of refusal 16, in their two steps.
 pub(crate) fn passes<'a>(head: Head, keys: &'a [u64; 128], heard: &'a [u32; 128]) -> bool
@@ -30,10 +30,10 @@ pub(crate) fn header_for(head: Head, packet: &[u8]) -> Header
         return found;
     };
     if payload_type(packet) != head.payload_type {
-        return Header::Refused(model::OTHER_PAYLOAD_TYPE);
+        return Header::Refused(refusals::OTHER_PAYLOAD_TYPE);
     }
     if ssrc(packet) != head.ssrc {
-        return Header::Refused(model::OTHER_SSRC);
+        return Header::Refused(refusals::OTHER_SSRC);
     }
     Header::Found {
         start: start,
@@ -67,7 +67,7 @@ pub(crate) fn hear_tested<'a>(
     ensures { λ r. ⌜ HearsTested (tableOf head (now (keys .entry)) (now (heard .entry))) (now (packet .entry)) r ⌝ }
 {
     if !passes(head, keys, heard) {
-        return Hearing::Refused(model::INVALID_TABLE);
+        return Hearing::Refused(refusals::INVALID_TABLE);
     }
     let found = header_for(head, packet);
     hear_in(head, packet, found)

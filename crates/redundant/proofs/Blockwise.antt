@@ -17,15 +17,16 @@ use Rattle.model.specs.Table.{tableOf, holding, place, valid}
 use Rattle.model.specs.Receive.{Arrival, hear}
 use Rattle.model.specs.Walk.{blockStep, blockOf}
 use Rattle.model.specs.Redundant.{ofType, arrivalOf, reportsIn, entryOf, tableAfterReports, answersTo, receivingEach}
-use Rattle.model.specs.Sizes.{BytesFit}
-use Rattle.model.proofs.Packets.{bytes-fit}
-use Rattle.model.proofs.Walks.{found-inside}
-use Rattle.redundant.specs.declared.opening.Opening.{Opening}
-use Rattle.redundant.specs.declared.taking.Tally.{Tally}
-use Rattle.redundant.specs.Opening.{firstStep, Opens}
-use Rattle.redundant.specs.Taking.{reportAt, InPlace, Ready, EntersBlock, EntersOrPasses, TakesReports}
-use Rattle.redundant.proofs.Beginning.{left, left-of-type, left-of-other, Ahead, ahead, begins}
-use Rattle.redundant.proofs.Takings.{enough, whole-header}
+use Rattle.model.specs.Fits.{BytesFit}
+use Rattle.theorems.proofs.Packets.{bytes-fit}
+use Rattle.theorems.proofs.Walks.{found-inside}
+use Rattle.locating.specs.declared.Located.{Located}
+use Rattle.block_taking.specs.declared.Entered.{Entered}
+use Rattle.locating.specs.Located.{firstStep, Locates}
+use Rattle.block_taking.specs.Enters.{reportAt, InPlace, Ready, EntersBlock, EntersOrPasses}
+use Rattle.redundant.specs.Takes.{TakesReports}
+use Rattle.locating.proofs.Begins.{left, left-of-type, left-of-other, Ahead, ahead, begins}
+use Rattle.locating.proofs.Whole.{enough, whole-header}
 
 -- ENTRIES FROM A PLACE ON
 
@@ -61,8 +62,8 @@ pub record Progress (h : Head) (keys heard bs entries : List ℕ) (h′ : Head) 
   pub entered : placeFrom i (map entryOf (answersTo (tableOf h′ keys′ heard′) (left h bs rest))) entries′
       ≡ place (map entryOf (answersTo (tableOf h keys heard) (reportsIn h bs))) entries
 
-module _ (h : Head) (keys heard bs entries : List ℕ) (o : Opening) (w : Opens h bs (length entries) o) where
-  pub starts : BytesFit bs → valid (tableOf h keys heard) ≡ true → (s : BlockStep) → s ≡ firstStep h bs o
+module _ (h : Head) (keys heard bs entries : List ℕ) (o : Located) (w : Locates h bs (length entries) o) where
+  pub starts : BytesFit bs → valid (tableOf h keys heard) ≡ true → (s : BlockStep) → s ≡ firstStep (h .«payload_type») bs o
       → Progress h keys heard bs entries h 0 s keys heard entries
   unfolding placeFrom
   starts fit v s is =
@@ -202,7 +203,7 @@ module _ (h : Head) (keys heard bs entries : List ℕ) (h′ : Head) (i : ℕ) (
     pub ready : Ready h′ bs s i entries′
     ready = record { of-type = λ e. in-place (e ∙ ap (λ (x : Head). x .«payload_type») (w .held)) }
 
-    pub goes-on : (time : ℕ) → time ≡ timestamp bs → (m : Bool) → m ≡ marker bs → (t : Tally) (keys″ heard″ entries″ : List ℕ)
+    pub goes-on : (time : ℕ) → time ≡ timestamp bs → (m : Bool) → m ≡ marker bs → (t : Entered) (keys″ heard″ entries″ : List ℕ)
         → EntersOrPasses h′ keys′ heard′ bs time m s i entries′ t keys″ heard″ entries″ → (s′ : BlockStep) → s′ ≡ blockStep bs (s .after)
         → Progress h keys heard bs entries (holding (t .count) h′) (t .entries) s′ keys″ heard″ entries″
     goes-on time is-time m is-m t keys″ heard″ entries″ e s′ is′ = go (eqb (s .«payload_type») (h′ .«payload_type»)) refl

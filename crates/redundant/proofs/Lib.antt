@@ -1,5 +1,2 @@
-pub mod Openings
-pub mod Takings
-pub mod Beginning
 pub mod Blockwise
 pub mod Ways

@@ -12,10 +12,10 @@ use Rattle.model.specs.declared.Table.{Table}
 use Rattle.model.specs.declared.BlocksReceived.{BlocksReceived}
 use Rattle.model.specs.Table.{tableOf, holding, valid}
 use Rattle.model.specs.Redundant.{refusalOfBoth, wholeRefusal, ReceivingBlocks, reportsIn, receivingEach, refusingWhole, receiveRedundant}
-use Rattle.redundant.specs.declared.opening.Opening.{Opening}
-use Rattle.redundant.specs.Opening.{acceptedOpening, refusedOpening, openingOf, Opens}
-use Rattle.redundant.specs.Taking.{TakesReports}
-use Rattle.redundant.proofs.Takings.{unrefused}
+use Rattle.locating.specs.declared.Located.{Located}
+use Rattle.locating.specs.Located.{locatedIn, unlocated, locating, Locates}
+use Rattle.redundant.specs.Takes.{TakesReports}
+use Rattle.locating.proofs.Whole.{unrefused}
 
 pub passed : (t : Table) (b : Bool) → b ≡ valid t → not b ≡ false → valid t ≡ true
 passed t b is ok = sym is ∙ not-false b ok
@@ -51,21 +51,21 @@ module _ (h : Head) (keys heard bs entries : List ℕ) where
     pub bad-table-enters-none : entries ≡ receiveRedundant t bs entries .entries
     bad-table-enters-none = entries-stay (receiveRedundant t bs entries) 16 refused-16 a e
 
-  module _ (v : valid t ≡ true) (room : ℕ) (lent : room ≡ length entries) (o : Opening) (is : o ≡ openingOf h bs room) where
-    pub opens : o .refusal ≡ 0 → Opens h bs (length entries) o
-    opens z = record { is = is ∙ ap (openingOf h bs) lent; unrefused = z }
+  module _ (v : valid t ≡ true) (room : ℕ) (lent : room ≡ length entries) (o : Located) (is : o ≡ locating h bs room) where
+    pub opens : o .refusal ≡ 0 → Locates h bs (length entries) o
+    opens z = record { is = is ∙ ap (locating h bs) lent; unrefused = z }
 
     -- 1 to 6, 18, 19 and 15
     module _ (n : o .refusal ≡ 0 → ⊥) (a : BlocksReceived) (e : a ≡ record { blocks = 0; count = h .count; refusal = o .refusal }) where
       its-number : (eqb (refusalOfBoth h bs (length entries)) 0 ≡ false) × (o .refusal ≡ refusalOfBoth h bs (length entries))
-      unfolding openingOf
-      its-number = go (eqb (refusalOfBoth h bs (length entries)) 0) refl (is ∙ ap (openingOf h bs) lent)
+      unfolding locating
+      its-number = go (eqb (refusalOfBoth h bs (length entries)) 0) refl (is ∙ ap (locating h bs) lent)
         where
           go : (b : Bool) → eqb (refusalOfBoth h bs (length entries)) 0 ≡ b
-              → o ≡ cond b (acceptedOpening h bs) (refusedOpening (refusalOfBoth h bs (length entries)))
+              → o ≡ cond b (locatedIn h bs) (unlocated (refusalOfBoth h bs (length entries)))
               → (b ≡ false) × (o .refusal ≡ refusalOfBoth h bs (length entries))
-          go true q x = absurd (n (ap (λ (y : Opening). y .refusal) x))
-          go false q x = (refl, ap (λ (y : Opening). y .refusal) x)
+          go true q x = absurd (n (ap (λ (y : Located). y .refusal) x))
+          go false q x = (refl, ap (λ (y : Located). y .refusal) x)
 
       refused-whole : receiveRedundant t bs entries ≡ refusingWhole (o .refusal) t entries
       unfolding receiveRedundant wholeRefusal

@@ -11,7 +11,7 @@ use Rattle.model.specs.declared.Segment.{Segment}
 use Rattle.model.specs.Packet.{bit}
 use Rattle.model.specs.Segments.{before, merge}
 use Rattle.model.specs.Table.{keyOf, heardOf, segmentOf}
-use Rattle.model.proofs.Numbers.{bit-of-test}
+use Rattle.theorems.proofs.Numbers.{bit-of-test}
 
 -- THE ORDER
 

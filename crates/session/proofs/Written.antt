@@ -11,32 +11,16 @@ use borrow.Author.Tests.{le-leb, lt-leb, lt-ltb, eq-eqb, ne-eqb, eqb-true, leb-t
 use lib.Dec.{eqb, leb}
 use lib.ListN.{length, getD, drop, length-append, length-drop}
 use lib.Seq.{drop-cons, drop-length, drop-append-seam, getD-append-seam, getD-drop, drop-drop}
-use Rattle.model.proofs.Basics.{and-then}
-use Rattle.session.proofs.Laws.{no-line, Passed, number-passed, line-within}
-use Rattle.session.specs.declared.Fault.{Fault}
-use Rattle.session.specs.declared.Fault.the-variants.{Name, MoreText}
+use Rattle.refusals.proofs.Tests.{and-then}
+use Rattle.lines.proofs.Laws.{no-line, Passed, number-passed, line-within}
+use Rattle.lines.specs.declared.Fault.{Fault}
+use Rattle.lines.specs.declared.Fault.the-variants.{Name, MoreText}
 use Rattle.session.specs.declared.Session.the-variants.{Given, Bad}
-use Rattle.session.specs.declared.Line.{Line}
-use Rattle.session.specs.declared.Line.the-variants.{Read, Wrong}
-use Rattle.session.specs.Session.{
-  isDigit,
-  digitsOf,
-  followedBy,
-  value,
-  decimals,
-  noZeroAhead,
-  numberAt,
-  startsWith,
-  lineAt,
-  typeName,
-  sourceName,
-  originName,
-  after,
-  sessionOf,
-  Decimal,
-  StartsWithLine,
-  SessionText,
-}
+use Rattle.lines.specs.declared.Line.{Line}
+use Rattle.lines.specs.declared.Line.the-variants.{Read, Wrong}
+use Rattle.decimal.specs.Decimal.{isDigit, digitsOf, followedBy, value, noZeroAhead}
+use Rattle.lines.specs.Lines.{largest, numberAt, startsWith, lineAt}
+use Rattle.session.specs.Session.{decimals, typeName, sourceName, originName, after, sessionOf, Decimal, StartsWithLine, SessionText}
 
 -- DIGITS OF A NUMBER
 
@@ -192,7 +176,7 @@ module _ (bs : List ℕ) (at : ℕ) where
   at-front : (i : ℕ) → getD bs (at + i) 0 ≡ getD (drop at bs) i 0
   at-front i = sym (getD-drop at bs i 0)
 
-  number-read : (n : ℕ) (ds rest : List ℕ) → drop at bs ≡ ds ++ (10 ∷ rest) → Decimal n ds → n ≤ 4294967295 → numberAt bs at ≡ Read n (at + length ds + 1)
+  number-read : (n : ℕ) (ds rest : List ℕ) → drop at bs ≡ ds ++ (10 ∷ rest) → Decimal n ds → n ≤ largest → numberAt bs at ≡ Read n (at + length ds + 1)
   unfolding numberAt digitsOf
   number-read n ds rest e d small =
       let t : ds ≡ decimals (suc (d .more)) n = d .text ∙ ap (λ (x : ℕ). decimals x n) (add-one (d .more)) in
@@ -208,11 +192,11 @@ module _ (bs : List ℕ) (at : ℕ) where
       let decimal : noZeroAhead (getD bs at 0) (length ds) ≡ true =
       rw long (decimal-first (getD bs at 0) (d .more)
       (λ s f. first-digit (d .more) n (10 ∷ rest) (d .fewest s) (rw (add-one (d .more)) at (d .fits)) (sym head ∙ f))) in
-      let in-range = le-leb (value ds) 4294967295 (omega (arith, said, small)) in
+      let in-range = le-leb (value ds) largest (omega (arith, said, small)) in
       rw (all, in-range, lt-ltb (at + length ds) (length bs) there, eq-eqb (getD bs (at + length ds) 0) 10 end, some, decimal, said)
 
   number-then : (n e : ℕ) → numberAt bs at ≡ Read n e
-      → (ds : List ℕ) × (drop at bs ≡ ds ++ (10 ∷ drop e bs)) × Decimal n ds × (n ≤ 4294967295)
+      → (ds : List ℕ) × (drop at bs ≡ ds ++ (10 ∷ drop e bs)) × Decimal n ds × (n ≤ largest)
   number-then n e x =
       let next : suc (at + length ds) ≡ e = sym (add-one (at + length ds)) ∙ p .next in
       let rest : drop (length ds) (drop at bs) ≡ 10 ∷ drop e bs =

@@ -9,9 +9,9 @@ use Rattle.model.specs.declared.Segment.{Segment}
 use Rattle.model.specs.declared.Table.{Table}
 use Rattle.model.specs.Search.{entry}
 use Rattle.model.specs.Table.{keyOf, segmentOf, segmentAt, segmentsFrom, held, place}
-use Rattle.model.proofs.Order.{Alike}
-use Rattle.model.proofs.Numbers.{key-back}
-use Rattle.model.proofs.Tables.{held-at}
+use Rattle.theorems.proofs.Order.{Alike}
+use Rattle.theorems.proofs.Numbers.{key-back}
+use Rattle.theorems.proofs.Tables.{held-at}
 use Rattle.table.specs.Columns.{insertedAt}
 
 -- THE KEYS OF WHAT IS HELD

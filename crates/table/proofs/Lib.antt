@@ -1,5 +1,4 @@
 pub mod Columns
-pub mod Halving
 pub mod Shifts
 pub mod Takes
 pub mod Laws

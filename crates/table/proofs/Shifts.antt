@@ -67,24 +67,24 @@ one-moved l n few m i j k more top w e = record {
     s = omega arith
 
 -- the places from j to n have moved up, and place i is still to be reached
-pub record Opening (l : List ℕ) (n i : ℕ) (m : List ℕ) (j : ℕ) : Type 0 where
+pub record Shifting (l : List ℕ) (n i : ℕ) (m : List ℕ) (j : ℕ) : Type 0 where
   pub from : i ≤ j
   pub upto : j ≤ n
   pub moved : Moved l n m j
 
 module _ (l : List ℕ) (n i : ℕ) (few : n < length l) where
-  pub opening-starts : i ≤ n → Opening l n i l n
-  opening-starts h = record { from = h; upto = omega arith; moved = none-moved l n few }
+  pub shifting-starts : i ≤ n → Shifting l n i l n
+  shifting-starts h = record { from = h; upto = omega arith; moved = none-moved l n few }
 
-  pub opening-goes-on : (m : List ℕ) (j : ℕ) → Opening l n i m j → i < j → Opening l n i (set m j (getD m (j - 1) 0)) (j - 1)
-  opening-goes-on m j w more = record {
+  pub shifting-goes-on : (m : List ℕ) (j : ℕ) → Shifting l n i m j → i < j → Shifting l n i (set m j (getD m (j - 1) 0)) (j - 1)
+  shifting-goes-on m j w more = record {
     from = omega arith;
     upto = omega (arith, w .upto);
     moved = one-moved l n few m i j (j - 1) more (w .upto) (w .moved) refl;
   }
 
 -- place i is reached: what is stored there is put in
-pub put-in : (l : List ℕ) (n i : ℕ) (m : List ℕ) (j : ℕ) → Opening l n i m j → j ≤ i → (x : ℕ) → set m i x ≡ insertedAt i x n l
+pub put-in : (l : List ℕ) (n i : ℕ) (m : List ℕ) (j : ℕ) → Shifting l n i m j → j ≤ i → (x : ℕ) → set m i x ≡ insertedAt i x n l
 put-in l n i m j w reached x = let there : i ≡ j = omega (arith, w .from) in rw there (w .moved .stored x)
 
 pub stored-length : (l m : List ℕ) (i x : ℕ) → length m ≡ length l → length (set m i x) ≡ length l

@@ -1,7 +1,7 @@
 -- A report taken into the columns: the place that the search finds is that of the model's `put`, and each column changes there.
 use Prim.Native.Nat.{ℕ, _+_, _≤_, _<_}
 use mathlib.Core.Path.{_≡_, sym, _∙_, ap}
-use mathlib.Core.Bool.{Bool, true, false, not, and-false, false≢true}
+use mathlib.Core.Bool.{Bool, true, false, not, _&&_, and-false, false≢true}
 use mathlib.Core.List.{List, _∷_, _++_, map}
 use native.Mathlib.Omega.{arith}
 use borrow.Author.Tests.{lt-ltb, ltb-true, eqb-true, eq-eqb, ne-eqb}
@@ -15,17 +15,18 @@ use Rattle.model.specs.declared.Received.{Received}
 use Rattle.model.specs.Segments.{merge}
 use Rattle.model.specs.Search.{entry, search}
 use Rattle.model.specs.Table.{keyOf, heardOf, segmentOf, segmentAt, held, tableOf, holding, place, valid, holds, noRoom, put, taking}
-use Rattle.model.proofs.Basics.{and-then}
-use Rattle.model.proofs.Order.{Alike}
-use Rattle.model.proofs.Numbers.{key-back, heard-back}
-use Rattle.model.proofs.Places.{Belongs, stands-held, stands-put, belongs-held, belongs-put}
-use Rattle.model.proofs.Search.{finds}
-use Rattle.model.proofs.Tables.{Passed, tests-passed, held-length, held-at}
-use Rattle.table.specs.declared.places.Sought.{Sought}
-use Rattle.table.specs.Columns.{Seeks, Takes, insertedAt, takenInto}
+use Rattle.refusals.proofs.Tests.{and-then}
+use Rattle.theorems.proofs.Order.{Alike}
+use Rattle.theorems.proofs.Numbers.{key-back, heard-back}
+use Rattle.theorems.proofs.Places.{Belongs, stands-held, stands-put, belongs-held, belongs-put}
+use Rattle.theorems.proofs.Search.{finds}
+use Rattle.theorems.proofs.Tables.{Passed, tests-passed, held-length, held-at}
+use Rattle.searching.specs.declared.Sought.{Sought}
+use Rattle.searching.specs.Seeks.{SeeksIn}
+use Rattle.table.specs.Columns.{Takes, insertedAt, takenInto}
 use Rattle.table.proofs.Columns.{key-alike, alike-key, length-in, column-stored, column-inserted}
 
-pub count-within : (h : Head) (keys heard : List ℕ) → valid (tableOf h keys heard) ≡ true → length keys ≡ 128 → h .count ≤ length keys
+pub count-within : (h : Head) (keys heard : List ℕ) → valid (tableOf h keys heard) ≡ true → length keys ≡ 128 → 0 + h .count ≤ length keys
 count-within h keys heard passes long = omega (arith, tests-passed (tableOf h keys heard) passes .few)
 
 module _ (h : Head) (keys heard : List ℕ) (k w : ℕ) where
@@ -35,18 +36,24 @@ module _ (h : Head) (keys heard : List ℕ) (k w : ℕ) where
   abbrev r : Segment
   r = segmentOf k w
 
-  module _ (passes : valid t ≡ true) (s : Sought) (l : Seeks keys (h .count) k s) where
+  module _ (passes : valid t ≡ true) (s : Sought) (l : SeeksIn keys 0 (h .count) k s) where
     abbrev p : ℕ
     p = s .place
 
     same-probes : search r (held t) .probes ≡ s .probes
-    same-probes = λ i. sym (l .found .is heard w) i .probes
+    same-probes = λ i. sym (l .found heard w) i .probes
+
+    -- the window is all that is held
+    stands : s .held ≡ (ltb p (h .count) && eqb (getD keys p 0) k)
+    stands =
+        let first : 0 + p ≡ p = omega arith in
+        l .there ∙ ap (λ (j : ℕ). ltb p (h .count) && eqb (getD keys j 0) k) first
 
     tests : Passed t
     tests = tests-passed t passes
 
     here : Belongs r (held t) p
-    here = let e : p ≡ search r (held t) .place = λ i. l .found .is heard w i .place in rw e (finds r (held t) (tests .rises))
+    here = let e : p ≡ search r (held t) .place = λ i. l .found heard w i .place in rw e (finds r (held t) (tests .rises))
 
     pub inserts-within : p ≤ h .count
     inserts-within = omega (arith, here .within, held-length t)
@@ -62,7 +69,7 @@ module _ (h : Head) (keys heard : List ℕ) (k w : ℕ) where
     -- the report's pair is held there
     module _ (yes : s .held ≡ true) where
       there : (p < h .count) × (getD keys p 0 ≡ k)
-      there = let q = and-then (ltb p (h .count)) (eqb (getD keys p 0) k) (sym (l .there) ∙ yes) in (ltb-true _ _ (q .0), eqb-true _ _ (q .1))
+      there = let q = and-then (ltb p (h .count)) (eqb (getD keys p 0) k) (sym (stands) ∙ yes) in (ltb-true _ _ (q .0), eqb-true _ _ (q .1))
 
       alike : Alike r (entry (held t) p)
       alike = key-alike t p (there .0) k w (there .1)
@@ -100,7 +107,7 @@ module _ (h : Head) (keys heard : List ℕ) (k w : ℕ) where
       other : p < length (held t) → Alike r (entry (held t) p) → ⊥
       other u a =
           let v : p < h .count = omega (arith, held-length t) in
-          absurd (false≢true (sym no ∙ l .there ∙ rw (lt-ltb p (h .count) v, eq-eqb (getD keys p 0) k (alike-key t p v k w a))))
+          absurd (false≢true (sym no ∙ stands ∙ rw (lt-ltb p (h .count) v, eq-eqb (getD keys p 0) k (alike-key t p v k w a))))
 
       nowhere : holds r (held t) ≡ false
       nowhere = belongs-held r (held t) p here (tests .rises) other

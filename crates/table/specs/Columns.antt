@@ -1,33 +1,17 @@
 -- What the table's functions make of its columns.
 use Prim.Native.Nat.{ℕ, _+_}
 use mathlib.Core.Path.{_≡_}
-use mathlib.Core.Bool.{cond, _&&_}
+use mathlib.Core.Bool.{cond}
 use mathlib.Core.List.{List, _∷_, _++_}
-use lib.Dec.{ltb, eqb}
-use lib.ListN.{getD, take, drop}
+use lib.ListN.{take, drop}
 use Rattle.model.specs.declared.Segment.{Segment}
 use Rattle.model.specs.declared.Table.{Table}
 use Rattle.model.specs.declared.Head.{Head}
-use Rattle.model.specs.declared.Lookup.{Lookup}
 use Rattle.model.specs.declared.Received.{Received}
-use Rattle.table.specs.declared.places.Sought.{Sought}
-use Rattle.model.specs.Refusals.{tableFull}
+use Rattle.refusals.specs.Refusals.{tableFull}
 use Rattle.model.specs.Search.{search}
-use Rattle.model.specs.Table.{segmentOf, segmentsFrom, held, tableOf, holding, noRoom}
+use Rattle.model.specs.Table.{segmentOf, held, tableOf, holding, noRoom}
 use Rattle.model.specs.Receive.{Receiving, refusing, taken}
-
--- THE SEARCH
-
--- s is what the search for key k finds among the segments of the first n keys, whatever was heard of them
-pub record Finds (keys : List ℕ) (n k : ℕ) (s : Lookup) : Type 0 where
-  pub is : (heard : List ℕ) (told : ℕ) → s ≡ search (segmentOf k told) (segmentsFrom keys heard 0 n)
-
--- and whether key k stands at the place found
-pub record Seeks (keys : List ℕ) (n k : ℕ) (s : Sought) : Type 0 where
-  pub found : Finds keys n k (record { place = s .place; probes = s .probes })
-  pub there : s .held ≡ (ltb (s .place) n && eqb (getD keys (s .place) 0) k)
-
--- A REPORT TAKEN
 
 -- a column of which the first n places are held, with x put in at place i: later ones move up by one place, and the places
 -- above stay as they are

@@ -1,6 +1,6 @@
--- What is told of an answer, case by case, is what the struct in its place holds.
+-- What a call's answer tells is what its definition says, so the struct in the answer's place is that of the definition.
 use Prim.Native.Nat.{ℕ}
-use mathlib.Core.Path.{_≡_, sym, ap, _∙_}
+use mathlib.Core.Path.{_≡_, ap, _∙_}
 use borrow.Author.Needs.{needs}
 use Rattle.model.specs.declared.Report.{Report}
 use Rattle.model.specs.declared.ReadAnswer.{ReadAnswer}
@@ -12,80 +12,40 @@ use Rattle.model.specs.declared.Codes.{Codes}
 use Rattle.model.specs.declared.CodesAnswer.{CodesAnswer}
 use Rattle.model.specs.declared.TextAnswer.{TextAnswer}
 use Rattle.model.specs.declared.LowestAnswer.{LowestAnswer}
-use Rattle.model.specs.Refusals.{Told, noReport, noEvent, toldRead, toldWrite, toldCount, toldEvent}
-use Rattle.model.specs.Codes.{emptySet, toldCodes, toldLowest, toldText}
-use Rattle.twimbor.specs.Results.{readResult, countResult, eventResult, codesResult, textResult, lowestResult}
-use Rattle.model.specs.declared.ReadAnswer.the-variants as readAnswer
-use Rattle.model.specs.declared.WriteAnswer.the-variants as writeAnswer
-use Rattle.model.specs.declared.CountAnswer.the-variants as countAnswer
-use Rattle.model.specs.declared.EventAnswer.the-variants as eventAnswer
-use Rattle.model.specs.declared.CodesAnswer.the-variants as codesAnswer
-use Rattle.model.specs.declared.TextAnswer.the-variants as textAnswer
-use Rattle.model.specs.declared.LowestAnswer.the-variants as lowestAnswer
+use Rattle.refusals.specs.Refusals.{Told}
+use Rattle.model.specs.Answers.{toldRead, toldWrite, toldCount, toldEvent}
+use Rattle.model.specs.Codes.{toldCodes, toldLowest, toldText}
+use Rattle.results.specs.declared.ReadResult.{ReadResult}
+use Rattle.results.specs.declared.CountResult.{CountResult}
+use Rattle.results.specs.declared.EventResult.{EventResult}
+use Rattle.results.specs.declared.CodesResult.{CodesResult}
+use Rattle.results.specs.declared.TextResult.{TextResult}
+use Rattle.results.specs.declared.LowestResult.{LowestResult}
+use Rattle.results.specs.Results.{readResult, countResult, eventResult, codesResult, textResult, lowestResult}
 
-module _ (a : ReadAnswer) (t : Told Report) (told : toldRead a ≡ t) where
-  pub read-given : (r : Report) → a ≡ readAnswer.Read r → record { report = r; refusal = 0 } ≡ readResult t
-  read-given r e = ap (λ (x : ReadAnswer). readResult (toldRead x)) (sym e) ∙ ap readResult told
+-- the same for every kind of answer
+told-as : {A T R : Type 0} (told : A → T) (struct : T → R) (r : R) (a : A) (t : T) → r ≡ struct (told a) → told a ≡ t → r ≡ struct t
+told-as told struct r a t of is = of ∙ ap struct is
 
-  pub read-refused : (n : ℕ) → a ≡ readAnswer.Refused n → (z : Report) → z ≡ noReport → record { report = z; refusal = n } ≡ readResult t
-  read-refused n e z f = rw f (ap (λ (x : ReadAnswer). readResult (toldRead x)) (sym e) ∙ ap readResult told)
+pub read-told : (r : ReadResult) (a : ReadAnswer) (t : Told Report) → r ≡ readResult (toldRead a) → toldRead a ≡ t → r ≡ readResult t
+read-told = told-as toldRead readResult
 
-module _ (a : WriteAnswer) (t : Told (Unit {0})) (told : toldWrite a ≡ t) where
-  pub write-given : a ≡ writeAnswer.Written → 0 ≡ t .number
-  write-given e = ap (λ (x : WriteAnswer). toldWrite x .number) (sym e) ∙ ap (λ (x : Told (Unit {0})). x .number) told
+pub write-told : (r : ℕ) (a : WriteAnswer) (t : Told (Unit {0})) → r ≡ toldWrite a .number → toldWrite a ≡ t → r ≡ t .number
+write-told = told-as toldWrite (λ (t : Told (Unit {0})). t .number)
 
-  pub write-refused : (n : ℕ) → a ≡ writeAnswer.Refused n → n ≡ t .number
-  write-refused n e = ap (λ (x : WriteAnswer). toldWrite x .number) (sym e) ∙ ap (λ (x : Told (Unit {0})). x .number) told
+pub count-told : (r : CountResult) (a : CountAnswer) (t : Told ℕ) → r ≡ countResult (toldCount a) → toldCount a ≡ t → r ≡ countResult t
+count-told = told-as toldCount countResult
 
-module _ (a : CountAnswer) (t : Told ℕ) (told : toldCount a ≡ t) where
-  pub count-given : (n : ℕ) → a ≡ countAnswer.Reports n → record { reports = n; refusal = 0 } ≡ countResult t
-  count-given n e = ap (λ (x : CountAnswer). countResult (toldCount x)) (sym e) ∙ ap countResult told
+pub event-told : (r : EventResult) (a : EventAnswer) (t : Told Event) → r ≡ eventResult (toldEvent a) → toldEvent a ≡ t → r ≡ eventResult t
+event-told = told-as toldEvent eventResult
 
-  pub count-refused : (n : ℕ) → a ≡ countAnswer.Refused n → record { reports = 0; refusal = n } ≡ countResult t
-  count-refused n e = ap (λ (x : CountAnswer). countResult (toldCount x)) (sym e) ∙ ap countResult told
+pub codes-told : (r : CodesResult) (a : CodesAnswer) (t : Told Codes) → r ≡ codesResult (toldCodes a) → toldCodes a ≡ t → r ≡ codesResult t
+codes-told = told-as toldCodes codesResult
 
-module _ (a : EventAnswer) (t : Told Event) (told : toldEvent a ≡ t) where
-  pub event-given : (v : Event) → a ≡ eventAnswer.Found v → record { event = v; refusal = 0 } ≡ eventResult t
-  event-given v e = ap (λ (x : EventAnswer). eventResult (toldEvent x)) (sym e) ∙ ap eventResult told
+pub text-told : (r : TextResult) (a : TextAnswer) (t : Told ℕ) → r ≡ textResult (toldText a) → toldText a ≡ t → r ≡ textResult t
+text-told = told-as toldText textResult
 
-  pub event-refused : (n : ℕ) → a ≡ eventAnswer.Refused n → (z : Event) → z ≡ noEvent → record { event = z; refusal = n } ≡ eventResult t
-  event-refused n e z f = rw f (ap (λ (x : EventAnswer). eventResult (toldEvent x)) (sym e) ∙ ap eventResult told)
+pub lowest-told : (r : LowestResult) (a : LowestAnswer) (t : Told ℕ) → r ≡ lowestResult (toldLowest a) → toldLowest a ≡ t → r ≡ lowestResult t
+lowest-told = told-as toldLowest lowestResult
 
-module _ (a : CodesAnswer) (t : Told Codes) (told : toldCodes a ≡ t) where
-  pub codes-given : (s : Codes) → a ≡ codesAnswer.Read s → record { codes = s; refusal = 0 } ≡ codesResult t
-  codes-given s e = ap (λ (x : CodesAnswer). codesResult (toldCodes x)) (sym e) ∙ ap codesResult told
-
-  pub codes-refused : (n : ℕ) → a ≡ codesAnswer.Refused n → (z : Codes) → z ≡ emptySet → record { codes = z; refusal = n } ≡ codesResult t
-  codes-refused n e z f = rw f (ap (λ (x : CodesAnswer). codesResult (toldCodes x)) (sym e) ∙ ap codesResult told)
-
-module _ (a : TextAnswer) (t : Told ℕ) (told : toldText a ≡ t) where
-  pub text-given : (n : ℕ) → a ≡ textAnswer.Written n → record { bytes = n; refusal = 0 } ≡ textResult t
-  text-given n e = ap (λ (x : TextAnswer). textResult (toldText x)) (sym e) ∙ ap textResult told
-
-  pub text-refused : (n : ℕ) → a ≡ textAnswer.Refused n → record { bytes = 0; refusal = n } ≡ textResult t
-  text-refused n e = ap (λ (x : TextAnswer). textResult (toldText x)) (sym e) ∙ ap textResult told
-
-module _ (a : LowestAnswer) (t : Told ℕ) (told : toldLowest a ≡ t) where
-  pub lowest-given : (c : ℕ) → a ≡ lowestAnswer.Lowest c → record { code = c; refusal = 0 } ≡ lowestResult t
-  lowest-given c e = ap (λ (x : LowestAnswer). lowestResult (toldLowest x)) (sym e) ∙ ap lowestResult told
-
-  pub lowest-refused : (n : ℕ) → a ≡ lowestAnswer.Refused n → record { code = 0; refusal = n } ≡ lowestResult t
-  lowest-refused n e = ap (λ (x : LowestAnswer). lowestResult (toldLowest x)) (sym e) ∙ ap lowestResult told
-
-pub ruleset answers = (
-  needs,
-  read-given,
-  read-refused,
-  write-given,
-  write-refused,
-  count-given,
-  count-refused,
-  event-given,
-  event-refused,
-  codes-given,
-  codes-refused,
-  text-given,
-  text-refused,
-  lowest-given,
-  lowest-refused,
-)
+pub ruleset answers = (needs, read-told, write-told, count-told, event-told, codes-told, text-told, lowest-told)

@@ -1,9 +1,8 @@
 -- The records that the list call writes one after another are the events, and those after them stay.
-use Prim.Native.Nat.{ℕ, zero, suc, _<_, _≤_, zero-le}
+use Prim.Native.Nat.{ℕ, zero, suc, _≤_}
 use mathlib.Core.Path.{_≡_, refl, sym, _∙_, ap}
 use mathlib.Core.Bool.{Bool, true, false, not, cond}
 use mathlib.Core.List.{List, _++_}
-use native.Mathlib.Nat.{not-suc-le-zero}
 use native.Mathlib.Omega.{arith}
 use borrow.Author.Tests.{ltb-false}
 use lib.Dec.{ltb, eqb}
@@ -11,7 +10,7 @@ use lib.ListN.{length, getD, take, drop, set, length-set}
 use lib.Seq.{length-take-le, take-length, take-suc, drop-cons, append-snoc, set-at}
 use Rattle.model.specs.declared.Event.{Event}
 use Rattle.model.specs.declared.Table.{Table}
-use Rattle.model.specs.Refusals.{noEvent}
+use Rattle.model.specs.Answers.{noEvent}
 use Rattle.model.specs.Table.{valid}
 use Rattle.model.specs.List.{events, listAnswer, list}
 
@@ -35,24 +34,6 @@ module _ (t : Table) where
     where
       v : Event
       v = getD (events t) k noEvent
-
-  -- the answer asks for no more records than are lent
-  pub within : (room : ℕ) → listAnswer t room .events ≤ room
-  within room = go (valid t) (ltb room (length (events t))) refl
-    where
-      go : (v b : Bool) → ltb room (length (events t)) ≡ b → cond (eqb (cond (not v) 16 (cond b 15 0)) 0) (length (events t)) 0 ≤ room
-      go false b e = zero-le
-      go true true e = zero-le
-      go true false e = ltb-false room (length (events t)) e
-
-  -- a record that the answer asks for is one of a table that passes the tests, and has its event
-  pub asked : (k room : ℕ) → k < listAnswer t room .events → (valid t ≡ true) × (k < length (events t))
-  asked k room = go (valid t) (ltb room (length (events t)))
-    where
-      go : (v b : Bool) → k < cond (eqb (cond (not v) 16 (cond b 15 0)) 0) (length (events t)) 0 → (v ≡ true) × (k < length (events t))
-      go false b l = absurd (not-suc-le-zero l)
-      go true true l = absurd (not-suc-le-zero l)
-      go true false l = (refl, l)
 
   pub filled-all : (l : List Event) → filled t (listAnswer t (length l) .events) l ≡ list t l .records
   filled-all l = go (valid t) (ltb (length l) (length (events t))) refl

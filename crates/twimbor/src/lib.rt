@@ -1,107 +1,47 @@
-// What C and Rust link: the library's calls, with structs that hold a number in place of enums. A slice crosses as a pointer
-// and a length. Every function checks its own input; refusal 0 means that nothing was refused.
+// What C and Rust link: the library's calls, with the structs of `results` in place of enums. A slice crosses as a pointer and a length.
+// Every function checks its own input; refusal 0 means that nothing was refused.
 ghost use Prim.Native.Nat.{_≤_};
 ghost use mathlib.Core.Path.{_≡_};
-ghost use Rattle.model.specs.Refusals.{noReport, noEvent};
 ghost use Rattle.model.specs.Packet.{read, write};
 ghost use Rattle.model.specs.Plan.{reportCount, writeReport};
 ghost use Rattle.model.specs.Table.{valid, opened, openedBoth, tableOf, holding};
 ghost use Rattle.model.specs.Receive.{receive};
-ghost use Rattle.model.specs.Walk.{walkStart, blockStep};
 ghost use Rattle.model.specs.Redundant.{receiveRedundant};
 ghost use Rattle.model.specs.WriteRedundant.{writeRedundant};
 ghost use Rattle.model.specs.Capture.{receiveCapture};
 ghost use Rattle.model.specs.List.{eventAt, list};
-ghost use Rattle.twimbor.specs.Results.{readResult, countResult, eventResult};
+ghost use Rattle.results.specs.Results.{readResult, countResult, eventResult};
 
+pub mod segments;
 pub mod sets;
+pub mod version;
+pub mod walks;
 
-use model::BlockStep;
 use model::BlocksReceived;
 use model::Captured;
 use model::Codes;
-use model::CountAnswer;
-use model::Cursor;
 use model::Event;
-use model::EventAnswer;
 use model::Head;
 use model::Listed;
 use model::OlderReport;
 use model::Opened;
 use model::Plan;
-use model::ReadAnswer;
 use model::Received;
 use model::Report;
-use model::WalkStart;
-use model::WriteAnswer;
-
-// A report, or the number of the refusal and zeros.
-#[repr(C)]
-pub struct ReadResult {
-    pub report: Report,
-    pub refusal: u8,
-}
-
-// How many reports a plan has, or the number of the refusal and 0.
-#[repr(C)]
-pub struct CountResult {
-    pub reports: u32,
-    pub refusal: u8,
-}
-
-// An event, or the number of the refusal and zeros.
-#[repr(C)]
-pub struct EventResult {
-    pub event: Event,
-    pub refusal: u8,
-}
-
-fn no_report() -> Report
-    ensures { λ r. ⌜ r ≡ noReport ⌝ }
-{
-    Report {
-        marker: false,
-        payload_type: 0,
-        sequence: 0,
-        timestamp: 0,
-        ssrc: 0,
-        code: 0,
-        ended: false,
-        volume: 0,
-        duration: 0,
-    }
-}
-
-fn no_event() -> Event
-    ensures { λ r. ⌜ r ≡ noEvent ⌝ }
-{
-    Event {
-        code: 0,
-        start: 0,
-        length: 0,
-        volume: 0,
-        quietest: 0,
-        began: false,
-        ended: false,
-    }
-}
+use results::CountResult;
+use results::EventResult;
+use results::ReadResult;
+use results::of_count;
+use results::of_event;
+use results::of_read;
+use results::of_write;
 
 // Reads a packet: refusal 1, 2, 3, 4, 17 or 7, 8 if its code is not in the set, or 9, or the report that it carries.
 #[no_mangle]
 pub extern "C" fn twimbor_read(codes: Codes, s: &[u8]) -> ReadResult
     ensures { λ r. ⌜ r ≡ readResult (read codes (now (s .entry))) ⌝ }
 {
-    let a = packet::read(codes, s);
-    match a {
-        ReadAnswer::Read(r) => ReadResult {
-            report: r,
-            refusal: 0,
-        },
-        ReadAnswer::Refused(n) => ReadResult {
-            report: no_report(),
-            refusal: n,
-        },
-    }
+    of_read(packet::read(codes, s))
 }
 
 // Writes a report's 16 bytes at the start of the output, or answers 12, also for a code outside the set, or 14, and leaves the output
@@ -111,11 +51,7 @@ pub extern "C" fn twimbor_write(codes: Codes, r: Report, out: &mut [u8]) -> u8
     ensures { λ n. ⌜ n ≡ write codes r (now (out .entry)) .answer .number ⌝ }
     ensures { λ n. ⌜ now (out .exit) ≡ write codes r (now (out .entry)) .output ⌝ }
 {
-    let a = writer::write(codes, r, out);
-    match a {
-        WriteAnswer::Written => 0,
-        WriteAnswer::Refused(n) => n,
-    }
+    of_write(writer::write(codes, r, out))
 }
 
 // How many reports a plan has, or 12, also for a code outside the set.
@@ -123,17 +59,7 @@ pub extern "C" fn twimbor_write(codes: Codes, r: Report, out: &mut [u8]) -> u8
 pub extern "C" fn twimbor_report_count(codes: Codes, p: Plan) -> CountResult
     ensures { λ r. ⌜ r ≡ countResult (reportCount codes p) ⌝ }
 {
-    let a = plan::report_count(codes, p);
-    match a {
-        CountAnswer::Reports(n) => CountResult {
-            reports: n,
-            refusal: 0,
-        },
-        CountAnswer::Refused(number) => CountResult {
-            reports: 0,
-            refusal: number,
-        },
-    }
+    of_count(plan::report_count(codes, p))
 }
 
 // Writes report k of a plan, counted from 1, at the start of the output, or answers 12, 13 or 14.
@@ -142,11 +68,7 @@ pub extern "C" fn twimbor_write_report(codes: Codes, p: Plan, k: u32, out: &mut 
     ensures { λ n. ⌜ n ≡ writeReport codes p k (now (out .entry)) .answer .number ⌝ }
     ensures { λ n. ⌜ now (out .exit) ≡ writeReport codes p k (now (out .entry)) .output ⌝ }
 {
-    let a = plan::write_report(codes, p, k, out);
-    match a {
-        WriteAnswer::Written => 0,
-        WriteAnswer::Refused(number) => number,
-    }
+    of_write(plan_report::write_report(codes, p, k, out))
 }
 
 // An empty table for the codes of a set, one payload type and SSRC, or 12 with a table of zeros if the set is empty or the payload
@@ -160,7 +82,7 @@ pub extern "C" fn twimbor_open_table(
 ) -> Opened
     ensures { λ r. ⌜ r ≡ opened codes «payload_type» ssrc origin ⌝ }
 {
-    table::open(codes, payload_type, ssrc, origin)
+    opening::open(codes, payload_type, ssrc, origin)
 }
 
 // An empty table for the codes of a set, the event's payload type, that of redundant packets and one SSRC, or 12 with a table of zeros
@@ -175,7 +97,7 @@ pub extern "C" fn twimbor_open_redundant_table(
 ) -> Opened
     ensures { λ r. ⌜ r ≡ openedBoth codes «payload_type» «redundant_type» ssrc origin ⌝ }
 {
-    table::open_redundant(codes, payload_type, redundant_type, ssrc, origin)
+    opening::open_redundant(codes, payload_type, redundant_type, ssrc, origin)
 }
 
 // Whether a table passes the tests of refusal 16.
@@ -243,22 +165,6 @@ pub extern "C" fn twimbor_receive_redundant_columns(
     redundant::receive_redundant(head, keys, heard, packet, entries)
 }
 
-// Where the walk over a packet's blocks starts, or 1 to 4, 18 or 19 and a cursor at which there is no block.
-#[no_mangle]
-pub extern "C" fn twimbor_walk_start(packet: &[u8]) -> WalkStart
-    ensures { λ r. ⌜ r ≡ walkStart (now (packet .entry)) ⌝ }
-{
-    blocks::step::walk_start(packet)
-}
-
-// The block at a cursor, whatever its numbers, and the cursor after it.
-#[no_mangle]
-pub extern "C" fn twimbor_block_step(packet: &[u8], cursor: Cursor) -> BlockStep
-    ensures { λ r. ⌜ r ≡ blockStep (now (packet .entry)) cursor ⌝ }
-{
-    blocks::step::block_step(packet, cursor)
-}
-
 // Writes a redundant packet of a report and of 0, 1 or 2 older ones, which stand before it in the order given, at the start of the
 // output, or answers 12, also for a code outside the set, or 14, and leaves the output as it is.
 #[no_mangle]
@@ -274,11 +180,7 @@ pub extern "C" fn twimbor_write_redundant(
     ensures { λ n. ⌜ n ≡ writeRedundant codes r «redundant_type» count first second (now (out .entry)) .answer .number ⌝ }
     ensures { λ n. ⌜ now (out .exit) ≡ writeRedundant codes r «redundant_type» count first second (now (out .entry)) .output ⌝ }
 {
-    let a = block_writer::write_redundant(codes, r, redundant_type, count, first, second, out);
-    match a {
-        WriteAnswer::Written => 0,
-        WriteAnswer::Refused(refusal) => refusal,
-    }
+    of_write(block_writer::write_redundant(codes, r, redundant_type, count, first, second, out))
 }
 
 // The event at number k, counted from 1 by start, then code, or 16 or 13.
@@ -291,17 +193,7 @@ pub extern "C" fn twimbor_event_at_columns<'a>(
 ) -> EventResult
     ensures { λ r. ⌜ r ≡ eventResult (eventAt (tableOf head (now (keys .entry)) (now (heard .entry))) k) ⌝ }
 {
-    let a = events::event_at(head, keys, heard, k);
-    match a {
-        EventAnswer::Found(v) => EventResult {
-            event: v,
-            refusal: 0,
-        },
-        EventAnswer::Refused(refusal) => EventResult {
-            event: no_event(),
-            refusal: refusal,
-        },
-    }
+    of_event(events::event_at(head, keys, heard, k))
 }
 
 // Writes the events into the first lent records and answers how many, or 16 or 15; the other records stay.
@@ -318,8 +210,11 @@ pub extern "C" fn twimbor_list_columns<'a>(
     let a = events::answer_for(head, keys, heard, out.len());
     let n = a.events;
     let mut k = 0usize;
+    let mut from = 0usize;
     while k < n {
-        out[k] = events::event_of(head, keys, heard, k);
+        let place = events::event_place(keys, heard, head.count, from, 0usize);
+        out[k] = grouping::event_from(keys, heard, head.count, place);
+        from = place + 1usize;
         k += 1usize;
     }
     a

@@ -3,49 +3,21 @@ ghost use mathlib.Core.Path.{_≡_};
 ghost use Rattle.model.specs.Codes.{isIn, countOf, lowestOf};
 ghost use Rattle.code_text.specs.CodeText.{readCodes};
 ghost use Rattle.code_writer.specs.CodesWritten.{writeCodes};
-ghost use Rattle.twimbor.specs.Results.{codesResult, textResult, lowestResult};
+ghost use Rattle.results.specs.Results.{codesResult, textResult, lowestResult};
 use model::Codes;
-use model::CodesAnswer;
-use model::LowestAnswer;
-use model::TextAnswer;
-
-// A set, or the number of the refusal and the empty set.
-#[repr(C)]
-pub struct CodesResult {
-    pub codes: Codes,
-    pub refusal: u8,
-}
-
-// How many bytes a text has, or the number of the refusal and 0.
-#[repr(C)]
-pub struct TextResult {
-    pub bytes: usize,
-    pub refusal: u8,
-}
-
-// A code, or the number of the refusal and 0.
-#[repr(C)]
-pub struct LowestResult {
-    pub code: u32,
-    pub refusal: u8,
-}
+use results::CodesResult;
+use results::LowestResult;
+use results::TextResult;
+use results::of_codes;
+use results::of_lowest;
+use results::of_text;
 
 // The set that a text gives, as 0-15,66,70, or 20 for any other text.
 #[no_mangle]
 pub extern "C" fn twimbor_read_codes(text: &[u8]) -> CodesResult
     ensures { λ r. ⌜ r ≡ codesResult (readCodes (now (text .entry))) ⌝ }
 {
-    let a = code_text::read_codes(text);
-    match a {
-        CodesAnswer::Read(s) => CodesResult {
-            codes: s,
-            refusal: 0,
-        },
-        CodesAnswer::Refused(n) => CodesResult {
-            codes: codes::none(),
-            refusal: n,
-        },
-    }
+    of_codes(code_text::read_codes(text))
 }
 
 // Writes a set's text at the start of the output and answers how many bytes it has, or 20 or 14, and leaves the output as it is.
@@ -54,17 +26,7 @@ pub extern "C" fn twimbor_write_codes(codes: Codes, out: &mut [u8]) -> TextResul
     ensures { λ r. ⌜ r ≡ textResult (writeCodes codes (now (out .entry)) .answer) ⌝ }
     ensures { λ r. ⌜ now (out .exit) ≡ writeCodes codes (now (out .entry)) .output ⌝ }
 {
-    let a = code_writer::write_codes(codes, out);
-    match a {
-        TextAnswer::Written(bytes) => TextResult {
-            bytes: bytes,
-            refusal: 0,
-        },
-        TextAnswer::Refused(n) => TextResult {
-            bytes: 0,
-            refusal: n,
-        },
-    }
+    of_text(code_writer::write_codes(codes, out))
 }
 
 // Whether a code is in the set; none above 255 is.
@@ -88,15 +50,5 @@ pub extern "C" fn twimbor_codes_count(codes: Codes) -> u32
 pub extern "C" fn twimbor_codes_lowest(codes: Codes) -> LowestResult
     ensures { λ r. ⌜ r ≡ lowestResult (lowestOf codes) ⌝ }
 {
-    let a = codes::lowest(codes);
-    match a {
-        LowestAnswer::Lowest(code) => LowestResult {
-            code: code,
-            refusal: 0,
-        },
-        LowestAnswer::Refused(n) => LowestResult {
-            code: 0,
-            refusal: n,
-        },
-    }
+    of_lowest(codes::lowest(codes))
 }

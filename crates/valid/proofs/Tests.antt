@@ -6,16 +6,16 @@ use mathlib.Core.List.{List}
 use native.Mathlib.Omega.{arith}
 use borrow.Author.Tests.{eq-eqb, ne-eqb, lt-ltb, ltb-true, le-leb, lt-leb, not-true, not-false}
 use lib.Dec.{leb, eqb}
-use lib.ListN.{getD}
+use lib.ListN.{length, getD}
 use Rattle.model.specs.declared.Head.{Head}
 use Rattle.model.specs.declared.Table.{Table}
 use Rattle.model.specs.Segments.{before, rising}
 use Rattle.model.specs.Table.{isForBoth, typesDiffer, keyOf, segmentAt, held, tableOf, validSegment, allValid, validTypes, valid}
-use Rattle.model.proofs.Basics.{and-both}
-use Rattle.model.proofs.Order.{_≺_, before-if}
-use Rattle.model.proofs.Numbers.{key-back}
-use Rattle.model.proofs.Places.{entries-rise}
-use Rattle.model.proofs.Tables.{ValidSegment, valid-then, valid-if, tests-passed, held-length, held-at, valid-from, all-valid-from, rising-from}
+use Rattle.refusals.proofs.Tests.{and-both}
+use Rattle.theorems.proofs.Order.{_≺_, before-if}
+use Rattle.theorems.proofs.Numbers.{key-back}
+use Rattle.theorems.proofs.Places.{entries-rise}
+use Rattle.theorems.proofs.Tables.{ValidSegment, valid-then, valid-if, tests-passed, held-length, held-at, valid-from, all-valid-from, rising-from}
 use Rattle.valid.specs.Passes.{CodesPass, KeysPass, HeardPass, Tells, Ranks, Highest}
 use Rattle.valid.proofs.Coded.{all-are-low}
 use Rattle.segment.proofs.Keys.{before-key}
@@ -150,10 +150,11 @@ module _ (h : Head) (keys heard : List ℕ) where
 
 -- BY THE HIGHEST CODE
 
-module _ (t : Table) (highest : ℕ) (w : Highest t highest) where
-  pub few-held : highest ≤ 255 → t .head .count ≤ 128
-  few-held = w .few
+pub few-held : (h : Head) (keys heard : List ℕ) (highest : ℕ) → Highest (tableOf h keys heard) highest → highest ≤ 255
+    → length keys ≡ 128 → h .count ≤ length keys
+few-held h keys heard highest w low long = omega (arith, w .few low)
 
+module _ (t : Table) (highest : ℕ) (w : Highest t highest) where
   pub all-keys : highest < 16 → t .head .codes .«from_0» % 65536 ≡ 65535 → true ≡ valid t
   all-keys h e = w .decides (omega arith) true (all-are-low (t .head .codes) (t .keys) (t .head .count) highest (w .most (omega arith)) h e)
 

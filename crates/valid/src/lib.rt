@@ -6,6 +6,7 @@
 // receiving call.
 ghost use mathlib.Core.Path.{_≡_};
 ghost use Prim.Native.Nat.{_≤_};
+ghost use lib.ListN.{length};
 ghost use Rattle.model.specs.Table.{validTypes, valid, tableOf};
 ghost use Rattle.valid.specs.Passes.{CodesPass, Weighs, HeardPass, Tells, Ranks, Highest};
 use codes::contains_byte;
@@ -15,8 +16,8 @@ use std::num::wrapping_sub_u32;
 use std::num::wrapping_sub_u64;
 
 // Whether the codes of the first n keys are in the set.
-fn each_in(codes: Codes, keys: &[u64; 128], n: usize) -> bool
-    requires { ⌜ n ≤ 128 ⌝ }
+fn each_in(codes: Codes, keys: &[u64], n: usize) -> bool
+    requires { ⌜ n ≤ length (now keys) ⌝ }
     ensures { λ r. ⌜ Tells r (CodesPass codes (now (keys .entry)) n) ⌝ }
 {
     let mut i = 0usize;
@@ -31,8 +32,8 @@ fn each_in(codes: Codes, keys: &[u64; 128], n: usize) -> bool
 
 // What no code of the first n keys is above, by their gathered bits; 256 if the keys do not rise or an offset is 2^31 or more. A key that
 // rises, taken off the one before it, leaves bit 63 set: both are far below that bit, or the gathered bits tell.
-fn highest_of(keys: &[u64; 128], n: usize) -> u64
-    requires { ⌜ n ≤ 128 ⌝ }
+fn highest_of(keys: &[u64], n: usize) -> u64
+    requires { ⌜ n ≤ length (now keys) ⌝ }
     ensures { λ r. ⌜ Ranks (now (keys .entry)) n r ⌝ }
 {
     if n == 0 {
@@ -67,8 +68,8 @@ fn weighed(told: u32) -> u32
 }
 
 // Whether each of the first n places has a duration, and a quietest that is not below the loudest. It has 6 bits, so neither is above 63.
-fn heard_pass(heard: &[u32; 128], n: usize) -> bool
-    requires { ⌜ n ≤ 128 ⌝ }
+fn heard_pass(heard: &[u32], n: usize) -> bool
+    requires { ⌜ n ≤ length (now heard) ⌝ }
     ensures { λ r. ⌜ Tells r (HeardPass (now (heard .entry)) n) ⌝ }
 {
     let mut shown = 0x8001_0000u32;

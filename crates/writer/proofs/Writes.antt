@@ -12,9 +12,9 @@ use lib.Seq.{take-all, drop-drop, paste, paste-zero, paste-suc}
 use Rattle.model.specs.declared.Codes.{Codes}
 use Rattle.model.specs.declared.Report.{Report}
 use Rattle.model.specs.Codes.{isIn}
-use Rattle.model.specs.Refusals.{answered, refusedBy}
+use Rattle.refusals.specs.Refusals.{answered, refusedBy}
 use Rattle.model.specs.Packet.{bit, headerBytes, payloadBytes, packetOf, reportInRange, write}
-use Rattle.model.proofs.Packets.{ranges}
+use Rattle.theorems.proofs.Packets.{ranges}
 use Rattle.writer.specs.Pieces.{PayloadInRange, putAt}
 
 -- RANGES

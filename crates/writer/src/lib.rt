@@ -2,7 +2,7 @@
 ghost use mathlib.Core.Path.{_≡_};
 ghost use Prim.Native.Nat.{_+_, _*_, _/_, _%_, _≤_};
 ghost use lib.ListN.{length};
-ghost use Rattle.model.specs.Refusals.{toldWrite};
+ghost use Rattle.model.specs.Answers.{toldWrite};
 ghost use Rattle.model.specs.Packet.{bit, headerBytes, payloadBytes, reportInRange, write};
 ghost use Rattle.writer.specs.Pieces.{PayloadInRange, putAt};
 use codes::contains;
@@ -137,10 +137,10 @@ pub fn write(codes: Codes, r: Report, out: &mut [u8]) -> WriteAnswer
     ensures { λ a. ⌜ now (out .exit) ≡ write codes r (now (out .entry)) .output ⌝ }
 {
     if !in_range(codes, r) {
-        return WriteAnswer::Refused(model::OUT_OF_RANGE);
+        return WriteAnswer::Refused(refusals::OUT_OF_RANGE);
     }
     if out.len() < 16 {
-        return WriteAnswer::Refused(model::OUTPUT_TOO_SMALL);
+        return WriteAnswer::Refused(refusals::OUTPUT_TOO_SMALL);
     }
     put_header(r, r.payload_type, out);
     put_payload(r.code, r.ended, r.volume, r.duration, 12, out);

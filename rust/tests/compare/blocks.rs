@@ -170,6 +170,11 @@ fn any_cursor_is_answered_as_on_paper() {
             }
             let step = sys::block_step(&packet, cursor);
             assert_eq!(step, paper::step(&packet, cursor), "{packet:02x?} at {cursor:?}");
+            let short = sys::header_step(&packet, cursor);
+            let length = if step.primary { 0 } else { step.end - step.start };
+            assert_eq!((short.next, usize::from(short.length)), (step.after.header, length));
+            assert_eq!((short.offset, short.payload_type), (step.offset, step.payload_type));
+            assert_eq!((short.primary, short.found), (step.primary, step.found));
             found += usize::from(step.found);
             older += usize::from(step.found && !step.primary);
         }

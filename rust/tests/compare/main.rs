@@ -9,6 +9,7 @@ mod captures;
 mod codes;
 mod lists;
 mod make;
+mod numbers;
 mod order;
 mod packets;
 mod paper;

@@ -1,6 +1,6 @@
 use Prim.Native.Nat.{_-_}
 use lib.ListN.{length}
-use Rattle.capture.proofs.Laws.{Progress, capturing}
+use Rattle.capture.proofs.Laws.{Progress, one-more-frame, capturing}
 use Rattle.capture.proofs.receive_frames.Statement.{statement}
 use Rattle.capture.proofs.receive_frames.Tie as tie
 
@@ -53,7 +53,7 @@ loop-less : tie.Need-loop-less Inv-loop μ-loop
 loop-less c = search capturing
 
 loop-again : tie.Need-loop-again Inv-loop μ-loop
-loop-again c = search capturing
+loop-again c = search one-more-frame
 
 captured-requires-2 : tie.Need-captured-requires-2 Inv-loop μ-loop
 captured-requires-2 c κs = search capturing

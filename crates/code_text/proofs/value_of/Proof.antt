@@ -15,26 +15,26 @@ abbrev μ-loop : tie.MeasureT-loop
 loop-holds : tie.Need-loop-holds Inv-loop μ-loop
 loop-holds c = search reading-codes
 
-shared-slice-read-b : tie.Need-shared-slice-read-b Inv-loop μ-loop
-shared-slice-read-b c = search reading-codes
+shared-slice-read-next-number : tie.Need-shared-slice-read-next-number Inv-loop μ-loop
+shared-slice-read-next-number c = search reading-codes
+
+next-number-requires : tie.Need-next-number-requires Inv-loop μ-loop
+next-number-requires c κs = search reading-codes
+
+enum-told : tie.Need-enum-told Inv-loop μ-loop
+enum-told c = search reading-codes
 
 returns : tie.Need-returns Inv-loop μ-loop
 returns c = search reading-codes
 
+enum-told-2 : tie.Need-enum-told-2 Inv-loop μ-loop
+enum-told-2 c = search reading-codes
+
 returns-2 : tie.Need-returns-2 Inv-loop μ-loop
 returns-2 c = search reading-codes
 
-mul-number : tie.Need-mul-number Inv-loop μ-loop
-mul-number c = search reading-codes
-
-cast-number : tie.Need-cast-number Inv-loop μ-loop
-cast-number c = search reading-codes
-
-add-number : tie.Need-add-number Inv-loop μ-loop
-add-number c = search reading-codes
-
-returns-3 : tie.Need-returns-3 Inv-loop μ-loop
-returns-3 c = search reading-codes
+enum-known-next : tie.Need-enum-known-next Inv-loop μ-loop
+enum-known-next c = search reading-codes
 
 add-i : tie.Need-add-i Inv-loop μ-loop
 add-i c = search reading-codes
@@ -45,8 +45,8 @@ loop-less c = search reading-codes
 loop-again : tie.Need-loop-again Inv-loop μ-loop
 loop-again c = search reading-codes
 
-returns-4 : tie.Need-returns-4 Inv-loop μ-loop
-returns-4 c = search reading-codes
+returns-3 : tie.Need-returns-3 Inv-loop μ-loop
+returns-3 c = search reading-codes
 
 pub value-of-spec : {M : Type 1} → statement M
 value-of-spec =
@@ -55,14 +55,14 @@ value-of-spec =
     Inv-loop
     μ-loop
     loop-holds
-    shared-slice-read-b
+    shared-slice-read-next-number
+    next-number-requires
+    enum-told
     returns
+    enum-told-2
     returns-2
-    mul-number
-    cast-number
-    add-number
-    returns-3
+    enum-known-next
     add-i
     loop-less
     loop-again
-    returns-4)
+    returns-3)

@@ -1,7 +1,7 @@
 -- The turns of the loop are those of `Seeking`.
 use Prim.Native.Nat.{_-_}
 use Rattle.code_writer.proofs.Laws.{writing-codes}
-use Rattle.code_writer.proofs.Walking.{Seeking}
+use Rattle.code_writer.proofs.Upward.{Seeking}
 use Rattle.code_writer.proofs.next_in.Statement.{statement}
 use Rattle.code_writer.proofs.next_in.Tie as tie
 

@@ -1,7 +1,7 @@
 -- The turns of the loop are those of `Running`.
 use Prim.Native.Nat.{_-_}
 use Rattle.code_writer.proofs.Laws.{writing-codes}
-use Rattle.code_writer.proofs.Walking.{Running}
+use Rattle.code_writer.proofs.Upward.{Running}
 use Rattle.code_writer.proofs.range_end.Statement.{statement}
 use Rattle.code_writer.proofs.range_end.Tie as tie
 

@@ -1,5 +1,5 @@
 -- Each return is one of the refusals 16 and 13 in their order, or the event at the number.
-use Rattle.events.proofs.Laws.{table-events}
+use Rattle.events.proofs.Laws.{table-events, all-from-0}
 use Rattle.events.proofs.event_at.Statement.{statement}
 use Rattle.events.proofs.event_at.Tie as tie
 
@@ -18,11 +18,14 @@ count-of-requires c κs = search table-events
 returns-3 : tie.Need-returns-3
 returns-3 c = search table-events
 
-sub-event-of : tie.Need-sub-event-of
-sub-event-of c = search table-events
+sub-event-place : tie.Need-sub-event-place
+sub-event-place c = search table-events
 
-event-of-requires : tie.Need-event-of-requires
-event-of-requires c κs = search table-events
+event-place-requires : tie.Need-event-place-requires
+event-place-requires c κs = (search table-events, all-from-0 _ _ _ _ (search table-events))
+
+event-from-requires : tie.Need-event-from-requires
+event-from-requires c κs = search table-events
 
 returns-4 : tie.Need-returns-4
 returns-4 c = search table-events
@@ -36,6 +39,7 @@ event-at-spec =
     returns-2
     count-of-requires
     returns-3
-    sub-event-of
-    event-of-requires
+    sub-event-place
+    event-place-requires
+    event-from-requires
     returns-4)

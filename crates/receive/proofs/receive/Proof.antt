@@ -8,17 +8,20 @@ hear-tested-requires c κs = search ways
 enum-known-said : tie.Need-enum-known-said
 enum-known-said c = search ways
 
-take-requires : tie.Need-take-requires
-take-requires c κs = search ways
+enum-told : tie.Need-enum-told
+enum-told c = search ways
 
-enum-known-said-2 : tie.Need-enum-known-said-2
-enum-known-said-2 c = search ways
+hearing-refusal-requires : tie.Need-hearing-refusal-requires
+hearing-refusal-requires c κs = search ways
 
 refused-requires : tie.Need-refused-requires
 refused-requires c κs = search ways
 
 returns : tie.Need-returns
 returns c = (search ways, (search ways, search ways))
+
+take-requires : tie.Need-take-requires
+take-requires c κs = search ways
 
 returns-2 : tie.Need-returns-2
 returns-2 c = (search ways, (search ways, search ways))
@@ -29,8 +32,9 @@ receive-spec =
     (tie.spec
     hear-tested-requires
     enum-known-said
-    take-requires
-    enum-known-said-2
+    enum-told
+    hearing-refusal-requires
     refused-requires
     returns
+    take-requires
     returns-2)

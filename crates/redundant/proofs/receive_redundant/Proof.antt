@@ -1,4 +1,17 @@
-use Rattle.redundant.proofs.Ways.{ways}
+use Rattle.redundant.proofs.Ways.{
+  passed,
+  bad-table,
+  bad-table-stays,
+  bad-table-enters-none,
+  opens,
+  whole-refused,
+  whole-stays,
+  whole-enters-none,
+  answered,
+  received,
+  entered,
+  ways,
+}
 use Rattle.redundant.proofs.receive_redundant.Statement.{statement}
 use Rattle.redundant.proofs.receive_redundant.Tie as tie
 
@@ -9,25 +22,25 @@ refused-whole-requires : tie.Need-refused-whole-requires
 refused-whole-requires c κs = search ways
 
 returns : tie.Need-returns
-returns c = (search ways, (search ways, search ways))
+returns c = (search bad-table, (search bad-table-stays, search bad-table-enters-none))
 
-opening-of-requires : tie.Need-opening-of-requires
-opening-of-requires c κs = search ways
+locate-requires : tie.Need-locate-requires
+locate-requires c κs = search ways
 
 refused-whole-requires-2 : tie.Need-refused-whole-requires-2
 refused-whole-requires-2 c κs = search ways
 
 returns-2 : tie.Need-returns-2
-returns-2 c = (search ways, (search ways, search ways))
+returns-2 c = (search (passed, whole-refused), (search (passed, whole-stays), search (passed, whole-enters-none)))
 
 take-blocks-requires : tie.Need-take-blocks-requires
-take-blocks-requires c κs = (search ways, search ways)
+take-blocks-requires c κs = (search passed, search (passed, opens))
 
 same-length : tie.Need-same-length
 same-length c = search ways
 
 returns-3 : tie.Need-returns-3
-returns-3 c = (search ways, (search ways, search ways))
+returns-3 c = (search (passed, answered), (search (passed, received), search (passed, entered)))
 
 pub receive-redundant-spec : {M : Type 1} → statement M
 receive-redundant-spec =
@@ -36,7 +49,7 @@ receive-redundant-spec =
     is-valid-requires
     refused-whole-requires
     returns
-    opening-of-requires
+    locate-requires
     refused-whole-requires-2
     returns-2
     take-blocks-requires

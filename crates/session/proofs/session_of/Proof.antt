@@ -1,3 +1,4 @@
+-- Each return is a way through `sessionOf`: the first line that is wrong, more text, or the three numbers.
 use Rattle.session.proofs.Laws.{session-text}
 use Rattle.session.proofs.session_of.Statement.{statement}
 use Rattle.session.proofs.session_of.Tie as tie
@@ -11,8 +12,14 @@ line-at-requires c κs = search session-text
 enum-known-first : tie.Need-enum-known-first
 enum-known-first c = search session-text
 
-enum-known-first-2 : tie.Need-enum-known-first-2
-enum-known-first-2 c = search session-text
+enum-told : tie.Need-enum-told
+enum-told c = search session-text
+
+bad-requires : tie.Need-bad-requires
+bad-requires c κs = search session-text
+
+returns : tie.Need-returns
+returns c = search session-text
 
 slice-aggregate-line-at-2 : tie.Need-slice-aggregate-line-at-2
 slice-aggregate-line-at-2 c = search session-text
@@ -23,8 +30,14 @@ line-at-requires-2 c κs = search session-text
 enum-known-middle : tie.Need-enum-known-middle
 enum-known-middle c = search session-text
 
-enum-known-middle-2 : tie.Need-enum-known-middle-2
-enum-known-middle-2 c = search session-text
+enum-told-2 : tie.Need-enum-told-2
+enum-told-2 c = search session-text
+
+bad-requires-2 : tie.Need-bad-requires-2
+bad-requires-2 c κs = search session-text
+
+returns-2 : tie.Need-returns-2
+returns-2 c = search session-text
 
 slice-aggregate-line-at-3 : tie.Need-slice-aggregate-line-at-3
 slice-aggregate-line-at-3 c = search session-text
@@ -35,14 +48,11 @@ line-at-requires-3 c κs = search session-text
 enum-known-last : tie.Need-enum-known-last
 enum-known-last c = search session-text
 
-enum-known-last-2 : tie.Need-enum-known-last-2
-enum-known-last-2 c = search session-text
+enum-told-3 : tie.Need-enum-told-3
+enum-told-3 c = search session-text
 
-returns : tie.Need-returns
-returns c = search session-text
-
-returns-2 : tie.Need-returns-2
-returns-2 c = search session-text
+bad-requires-3 : tie.Need-bad-requires-3
+bad-requires-3 c κs = search session-text
 
 returns-3 : tie.Need-returns-3
 returns-3 c = search session-text
@@ -60,17 +70,20 @@ session-of-spec =
     slice-aggregate-line-at
     line-at-requires
     enum-known-first
-    enum-known-first-2
+    enum-told
+    bad-requires
+    returns
     slice-aggregate-line-at-2
     line-at-requires-2
     enum-known-middle
-    enum-known-middle-2
+    enum-told-2
+    bad-requires-2
+    returns-2
     slice-aggregate-line-at-3
     line-at-requires-3
     enum-known-last
-    enum-known-last-2
-    returns
-    returns-2
+    enum-told-3
+    bad-requires-3
     returns-3
     returns-4
     returns-5)

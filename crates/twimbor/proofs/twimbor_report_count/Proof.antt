@@ -1,4 +1,4 @@
--- Each case of the answer is told as the definition says, so the struct in its place is too.
+-- One call, and its answer told in a struct.
 use borrow.Author.Needs.{needs}
 use Rattle.twimbor.proofs.Laws.{answers}
 use Rattle.twimbor.proofs.twimbor_report_count.Statement.{statement}
@@ -7,18 +7,11 @@ use Rattle.twimbor.proofs.twimbor_report_count.Tie as tie
 report-count-requires : tie.Need-report-count-requires
 report-count-requires c κs = search needs
 
-enum-known-a : tie.Need-enum-known-a
-enum-known-a c = search needs
-
-enum-known-a-2 : tie.Need-enum-known-a-2
-enum-known-a-2 c = search needs
+of-count-requires : tie.Need-of-count-requires
+of-count-requires c κs = search needs
 
 returns : tie.Need-returns
 returns c = search answers
 
-returns-2 : tie.Need-returns-2
-returns-2 c = search answers
-
 pub twimbor-report-count-spec : {M : Type 1} → statement M
-twimbor-report-count-spec =
-    tie.close (tie.spec report-count-requires enum-known-a enum-known-a-2 returns returns-2)
+twimbor-report-count-spec = tie.close (tie.spec report-count-requires of-count-requires returns)

@@ -17,8 +17,8 @@ loop-holds c = search testing
 mul-contains-byte : tie.Need-mul-contains-byte Inv-loop μ-loop
 mul-contains-byte c = search testing
 
-element-copy-out-contains-byte : tie.Need-element-copy-out-contains-byte Inv-loop μ-loop
-element-copy-out-contains-byte c = search testing
+shared-slice-read-contains-byte : tie.Need-shared-slice-read-contains-byte Inv-loop μ-loop
+shared-slice-read-contains-byte c = search testing
 
 cast-contains-byte : tie.Need-cast-contains-byte Inv-loop μ-loop
 cast-contains-byte c = search testing
@@ -49,7 +49,7 @@ each-in-spec =
     μ-loop
     loop-holds
     mul-contains-byte
-    element-copy-out-contains-byte
+    shared-slice-read-contains-byte
     cast-contains-byte
     contains-byte-requires
     returns

@@ -17,8 +17,8 @@ loop-holds c = search testing
 mul-weighed : tie.Need-mul-weighed Inv-loop μ-loop
 mul-weighed c = search testing
 
-element-copy-out-weighed : tie.Need-element-copy-out-weighed Inv-loop μ-loop
-element-copy-out-weighed c = search testing
+shared-slice-read-weighed : tie.Need-shared-slice-read-weighed Inv-loop μ-loop
+shared-slice-read-weighed c = search testing
 
 weighed-requires : tie.Need-weighed-requires Inv-loop μ-loop
 weighed-requires c κs = search testing
@@ -43,7 +43,7 @@ heard-pass-spec =
     μ-loop
     loop-holds
     mul-weighed
-    element-copy-out-weighed
+    shared-slice-read-weighed
     weighed-requires
     add-i
     loop-less

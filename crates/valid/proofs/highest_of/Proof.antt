@@ -14,8 +14,8 @@ abbrev μ-loop : tie.MeasureT-loop
 returns : tie.Need-returns Inv-loop μ-loop
 returns c = search testing
 
-element-copy-out-bits : tie.Need-element-copy-out-bits Inv-loop μ-loop
-element-copy-out-bits c = search testing
+shared-slice-read-bits : tie.Need-shared-slice-read-bits Inv-loop μ-loop
+shared-slice-read-bits c = search testing
 
 loop-holds : tie.Need-loop-holds Inv-loop μ-loop
 loop-holds c = search testing
@@ -23,8 +23,8 @@ loop-holds c = search testing
 mul-key : tie.Need-mul-key Inv-loop μ-loop
 mul-key c = search testing
 
-element-copy-out-key : tie.Need-element-copy-out-key Inv-loop μ-loop
-element-copy-out-key c = search testing
+shared-slice-read-key : tie.Need-shared-slice-read-key Inv-loop μ-loop
+shared-slice-read-key c = search testing
 
 sub-wrapping-sub-u64 : tie.Need-sub-wrapping-sub-u64 Inv-loop μ-loop
 sub-wrapping-sub-u64 c = search testing
@@ -32,8 +32,8 @@ sub-wrapping-sub-u64 c = search testing
 mul-wrapping-sub-u64 : tie.Need-mul-wrapping-sub-u64 Inv-loop μ-loop
 mul-wrapping-sub-u64 c = search testing
 
-element-copy-out-wrapping-sub-u64 : tie.Need-element-copy-out-wrapping-sub-u64 Inv-loop μ-loop
-element-copy-out-wrapping-sub-u64 c = search testing
+shared-slice-read-wrapping-sub-u64 : tie.Need-shared-slice-read-wrapping-sub-u64 Inv-loop μ-loop
+shared-slice-read-wrapping-sub-u64 c = search testing
 
 wrapping-sub-u64-requires : tie.Need-wrapping-sub-u64-requires Inv-loop μ-loop
 wrapping-sub-u64-requires c κs = search testing
@@ -63,13 +63,13 @@ highest-of-spec =
     Inv-loop
     μ-loop
     returns
-    element-copy-out-bits
+    shared-slice-read-bits
     loop-holds
     mul-key
-    element-copy-out-key
+    shared-slice-read-key
     sub-wrapping-sub-u64
     mul-wrapping-sub-u64
-    element-copy-out-wrapping-sub-u64
+    shared-slice-read-wrapping-sub-u64
     wrapping-sub-u64-requires
     add-i
     loop-less

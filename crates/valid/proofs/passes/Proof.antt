@@ -1,5 +1,4 @@
 -- If not all codes are keys, they are looked at one by one.
-use Rattle.valid.proofs.Tests.{few-held}
 use Rattle.valid.proofs.Laws.{testing}
 use Rattle.valid.proofs.passes.Statement.{statement}
 use Rattle.valid.proofs.passes.Tie as tie
@@ -11,7 +10,7 @@ returns-2 : tie.Need-returns-2
 returns-2 c = search testing
 
 each-in-requires : tie.Need-each-in-requires
-each-in-requires c κs = few-held _ _ (c .before .before .pre) (c .if3 .left)
+each-in-requires c κs = search testing
 
 returns-3 : tie.Need-returns-3
 returns-3 c = search testing

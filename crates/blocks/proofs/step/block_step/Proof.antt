@@ -23,6 +23,9 @@ returns-3 c = search stepping
 shared-slice-read-first : tie.Need-shared-slice-read-first
 shared-slice-read-first c = search stepping
 
+primary-at-requires : tie.Need-primary-at-requires
+primary-at-requires c κs = search stepping
+
 returns-4 : tie.Need-returns-4
 returns-4 c = search stepping
 
@@ -47,11 +50,11 @@ returns-6 c = search stepping
 add-t6 : tie.Need-add-t6
 add-t6 c = search stepping
 
-add-t11 : tie.Need-add-t11
-add-t11 c = search stepping
+add-t10 : tie.Need-add-t10
+add-t10 c = search stepping
 
-add-t13 : tie.Need-add-t13
-add-t13 c = search stepping
+add-t12 : tie.Need-add-t12
+add-t12 c = search stepping
 
 offset-at-requires : tie.Need-offset-at-requires
 offset-at-requires c κs = search stepping
@@ -70,6 +73,7 @@ block-step-spec =
     no-block-requires-3
     returns-3
     shared-slice-read-first
+    primary-at-requires
     returns-4
     sub-if5
     no-block-requires-4
@@ -78,7 +82,7 @@ block-step-spec =
     no-block-requires-5
     returns-6
     add-t6
-    add-t11
-    add-t13
+    add-t10
+    add-t12
     offset-at-requires
     returns-7)

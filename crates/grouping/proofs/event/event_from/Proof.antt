@@ -24,17 +24,20 @@ segment-at-requires c κs = search grouping
 alone-requires : tie.Need-alone-requires Inv-loop μ-loop
 alone-requires c κs = search grouping
 
+returns : tie.Need-returns Inv-loop μ-loop
+returns c = search grouping
+
 add-j : tie.Need-add-j Inv-loop μ-loop
 add-j c = search grouping
 
 loop-holds : tie.Need-loop-holds Inv-loop μ-loop
 loop-holds c = search grouping
 
-mul-if1 : tie.Need-mul-if1 Inv-loop μ-loop
-mul-if1 c = search grouping
+mul-if2 : tie.Need-mul-if2 Inv-loop μ-loop
+mul-if2 c = search grouping
 
-element-copy-out-if1 : tie.Need-element-copy-out-if1 Inv-loop μ-loop
-element-copy-out-if1 c = search grouping
+element-copy-out-if2 : tie.Need-element-copy-out-if2 Inv-loop μ-loop
+element-copy-out-if2 c = search grouping
 
 segment-at-requires-2 : tie.Need-segment-at-requires-2 Inv-loop μ-loop
 segment-at-requires-2 c κs = search grouping
@@ -42,8 +45,8 @@ segment-at-requires-2 c κs = search grouping
 continues-requires : tie.Need-continues-requires Inv-loop μ-loop
 continues-requires c κs = search grouping
 
-returns : tie.Need-returns Inv-loop μ-loop
-returns c = search grouping
+returns-2 : tie.Need-returns-2 Inv-loop μ-loop
+returns-2 c = search grouping
 
 lengthened-requires : tie.Need-lengthened-requires Inv-loop μ-loop
 lengthened-requires c κs = search grouping
@@ -64,10 +67,10 @@ loop-again c =
     event-grows _ _ _ _ _ _ _ inv less (w .0 .taken) _ (w .1 .ensures) _ (w .2 .ensures) (w .3 .left)
     _ (w .4 .ensures .0) (w .4 .ensures .1) _ _ (w .5) (w .6))
     (λ w. event-passes _ _ _ _ _ _ _ inv less _ _ (w .1) (w .2) (w .0 .left))
-    (c .if1 .came)
+    (c .if2 .came)
 
-returns-2 : tie.Need-returns-2 Inv-loop μ-loop
-returns-2 c = search grouping
+returns-3 : tie.Need-returns-3 Inv-loop μ-loop
+returns-3 c = search grouping
 
 pub event-from-spec : {M : Type 1} → statement M
 event-from-spec =
@@ -79,15 +82,16 @@ event-from-spec =
     element-copy-out-code
     segment-at-requires
     alone-requires
+    returns
     add-j
     loop-holds
-    mul-if1
-    element-copy-out-if1
+    mul-if2
+    element-copy-out-if2
     segment-at-requires-2
     continues-requires
-    returns
+    returns-2
     lengthened-requires
     add-j-2
     loop-less
     loop-again
-    returns-2)
+    returns-3)

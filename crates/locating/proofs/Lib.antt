@@ -1,0 +1,3 @@
+pub mod Locates
+pub mod Whole
+pub mod Begins
