@@ -146,6 +146,7 @@ reports_say period g r h w m = ⊎_elim early final (Memᴰ.append_cases (interi
     final (Memᴰ.head q) = whole false (λ z. absurd (false≢true z)) q
     final (Memᴰ.tail (Memᴰ.head q)) = whole g.ended (λ z. z) q
     final (Memᴰ.tail (Memᴰ.tail (Memᴰ.head q))) = whole g.ended (λ z. z) q
+    final (Memᴰ.tail (Memᴰ.tail (Memᴰ.tail x12))) = elim x12 [ ]
 
 -- THE REPORTS OF ALL SEGMENTS
 
@@ -243,6 +244,7 @@ reports_unmarked period g r m = ⊎_elim early final (Memᴰ.append_cases (inter
     final (Memᴰ.head q) = ap (λ (s : Segment). s.marked) q
     final (Memᴰ.tail (Memᴰ.head q)) = ap (λ (s : Segment). s.marked) q
     final (Memᴰ.tail (Memᴰ.tail (Memᴰ.head q))) = ap (λ (s : Segment). s.marked) q
+    final (Memᴰ.tail (Memᴰ.tail (Memᴰ.tail x12))) = elim x12 [ ]
 
 all_unmarked : (period : ℕ) (gs : List Segment) (r : Segment) → Mem r (reports_of_all period gs) → r.marked ≡ false
 unfolding reports_of_all

@@ -130,6 +130,7 @@ given =
 each : (P : Sent → Type 0) → P long → P short → (e : Sent) → Mem e sent_events → P e
 each P a b e (Memᴰ.head q) = rw q a
 each P a b e (Memᴰ.tail (Memᴰ.head q)) = rw q b
+each P a b e (Memᴰ.tail (Memᴰ.tail x8)) = elim x8 [ ]
 
 in_sizes : Sizes table sent_events
 unfolding is_in Apart segments_in_all cut_from
@@ -216,6 +217,7 @@ long_needed = record { first = mark; full = full; ended = (10, inr end, refl) }
     full g (Memᴰ.head e) h = rw e (4, inr whole, refl, refl)
     full g (Memᴰ.tail (Memᴰ.head e)) h = rw e (7, inr next_whole, refl, refl)
     full g (Memᴰ.tail (Memᴰ.tail (Memᴰ.head e))) h = absurd (false≢true (sym h ∙ ap (λ (s : Segment). s.ended) e))
+    full g (Memᴰ.tail (Memᴰ.tail (Memᴰ.tail x13))) h = elim x13 [ ]
 
 short_needed : NeededGiven table brought short
 unfolding is_in cut_from report_at reports all_on_wire mark_first reports_of_all interim
@@ -233,6 +235,7 @@ short_needed = record { first = mark; full = full; ended = (3, inl end, refl) }
 
     full : (g : Segment) → Mem g (cut (plan_of table short)) → g.ended ≡ false → Full g
     full g (Memᴰ.head e) h = absurd (false≢true (sym h ∙ ap (λ (s : Segment). s.ended) e))
+    full g (Memᴰ.tail x5) h = elim x5 [ ]
 
 pub delivered : DeliveredGiven table sent_events given
 delivered = record {

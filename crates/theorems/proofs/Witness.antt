@@ -71,6 +71,7 @@ handed =
 each : (P : Sent → Type 0) → P long → P short → (e : Sent) → Mem e sent_events → P e
 each P a b e (Memᴰ.head q) = rw q a
 each P a b e (Memᴰ.tail (Memᴰ.head q)) = rw q b
+each P a b e (Memᴰ.tail (Memᴰ.tail x8)) = elim x8 [ ]
 
 -- what is in a list behind its first k is in the list
 pub behind : {A : Type 0} {x : A} (k : ℕ) (l : List A) → Mem x (drop k l) → Mem x l
@@ -148,6 +149,7 @@ long_needed = record { first = mark; full = full; ended = (8, end, refl) }
     full : (g : Segment) → Mem g (cut (plan_of table long)) → g.ended ≡ false → Full g
     full g (Memᴰ.head e) h = rw e (4, whole, refl, refl)
     full g (Memᴰ.tail (Memᴰ.head e)) h = absurd (false≢true (sym h ∙ ap (λ (s : Segment). s.ended) e))
+    full g (Memᴰ.tail (Memᴰ.tail x9)) h = elim x9 [ ]
 
 short_needed : Needed table handed short
 unfolding is_in cut_from report_at reports all_on_wire mark_first reports_of_all interim
@@ -173,6 +175,7 @@ short_needed = record { first = mark; full = full; ended = (10, end, refl) }
     full g (Memᴰ.head e) h = rw e (2, whole, refl, refl)
     full g (Memᴰ.tail (Memᴰ.head e)) h = rw e (8, next_whole, refl, refl)
     full g (Memᴰ.tail (Memᴰ.tail (Memᴰ.head e))) h = absurd (false≢true (sym h ∙ ap (λ (s : Segment). s.ended) e))
+    full g (Memᴰ.tail (Memᴰ.tail (Memᴰ.tail x13))) h = elim x13 [ ]
 
 pub delivered : Delivered table sent_events handed
 delivered = record { empty = empty; sizes = in_sizes; fits = fits; admitted = admitted; needed = each _ long_needed short_needed }

@@ -157,6 +157,7 @@ fits = record { report = record { sequence = lit< tt; timestamp = lit< tt; ssrc 
     each : (o : OlderReport) → Mem o both → o.timestamp < 0x1_0000_0000
     each o (Memᴰ.head q) = rw q (lit< tt)
     each o (Memᴰ.tail (Memᴰ.head q)) = rw q (lit< tt)
+    each o (Memᴰ.tail (Memᴰ.tail x8)) = elim x8 [ ]
 
 pub called : take 33 (write_redundant the_keys now 102 2 recent early (replicate 40 9)).output ≡ redundant_packet_of now 102 both
 unfolding is_in write_redundant redundant_packet_of all_older_in_range report_in_range headers_of data_of
