@@ -1,4 +1,4 @@
-use Rattle.std.proofs.Common.{◌≡◌, ◌≤◌, ◌<◌, ℕ, List, length, refl, ap, sym, subst, ◌∙◌, arith}
+use Rattle.std.proofs.Common.{◌≡◌, ◌≤◌, ◌<◌, ℕ, List, length, refl, ap, subst, ◌∙◌, arith}
 use Rattle.model.specs.declared.Head.{Head}
 use Rattle.model.specs.declared.Event.{Event}
 use Rattle.model.specs.declared.Listed.{Listed}
