@@ -20,8 +20,11 @@ returns-then-n-number c = search table_events
 pub overflow_sub-number : goal.overflow_sub-number
 overflow_sub-number c = search table_events
 
-pub event_place-place-requires : goal.event_place-place-requires
-event_place-place-requires c = (search table_events, all_from_0 _ _ _ _ (search table_events))
+pub event_place-place-requires-clause-in_ranges : goal.event_place-place-requires-clause-in_ranges
+event_place-place-requires-clause-in_ranges c = search table_events
+
+pub event_place-place-requires-clause-k_in_bounds : goal.event_place-place-requires-clause-k_in_bounds
+event_place-place-requires-clause-k_in_bounds c = all_from_0 _ _ _ _ (search table_events)
 
 pub event_from-requires-clause-in_ranges : goal.event_from-requires-clause-in_ranges
 event_from-requires-clause-in_ranges c = search table_events
