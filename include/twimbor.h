@@ -3,7 +3,7 @@
  * Every function checks its own input and answers a refusal's number, 0 if nothing is refused. Under a refusal nothing lent
  * changes, but for the table of twimbor_open and of twimbor_open_redundant, and the values answered are zeros, but for the count of
  * twimbor_received, twimbor_captured and twimbor_blocks_received, and the probes under 11. Link with the archive that
- * `rt staticlib twimbor` writes.
+ * `tools/build twimbor` writes.
  *
  * A pointer with a number of `bytes`, `records` or `room` stands for that many, a pointer to a table or a column for all of it. What it
  * points to may not be written by anything else during the call, and what the call writes may not overlap anything else that is
