@@ -4,7 +4,7 @@ ghost use Rattle.std.specs.Prelude.{◌<◌, ◌≤◌};
 use super::random::drawn;
 
 // The bytes of a packet are the first `len` of these, 0 to 80.
-#[derive(Drop)]
+#[derive(Clone, Copy)]
 pub struct Sample {
     pub bytes: [u8; 80],
     pub len: u32,
