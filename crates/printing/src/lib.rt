@@ -24,17 +24,20 @@ fn buffer() -> [u8; 32768]
     [0; 32768]
 }
 
-// Says on standard error what could not be read or written, and why. The system's words stand before the number of its error.
-pub fn complain<R: Eprint + AllocGlobal>(rt: &R, what: &str, why: Error) {
-    let Ok(said) = format!(in rt.alloc(); "{why}") else {
-        let _ = eprintln!(rt; "list-events: {what}: {why}");
-        return;
-    };
-    let words = match said.split_once(" (os error ") {
+// The system's words for an error, which stand before its number.
+fn words(said: &str) -> &str {
+    match said.split_once(" (os error ") {
         Some((before, _)) => before,
-        None => said.as_str(),
+        None => said,
+    }
+}
+
+// Says on standard error what could not be read or written, and why.
+pub fn complain<R: Eprint + AllocGlobal>(rt: &R, what: &str, why: Error) {
+    let _ = match why.to_string(rt.alloc()) {
+        Ok(said) => rt.eprintln(format_args!("list-events: {what}: {}", words(said.as_str()))),
+        Err(_) => rt.eprintln(format_args!("list-events: {what}: {why}")),
     };
-    let _ = eprintln!(rt; "list-events: {what}: {words}");
 }
 
 // Writes a text to standard output, or says on standard error why it cannot be written.
