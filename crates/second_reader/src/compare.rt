@@ -109,11 +109,8 @@ fn compared() -> Tally {
         answers: none,
         differed: 0,
     };
-    let mut n = PACKETS;
-    while 0 < n {
-        n -= 1;
-        let u = counted_sample(t, n);
-        t = u;
+    for n in 0..PACKETS {
+        t = counted_sample(t, n);
     }
     t
 }

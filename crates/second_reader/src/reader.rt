@@ -193,11 +193,8 @@ fn report(w: Walk) -> Report {
 // Reads a packet.
 pub fn read(s: &[u8]) -> ReadAnswer {
     let mut w = begun();
-    let mut i = 0usize;
-    while i < s.len() {
-        let v = walked(w, s[i]);
-        w = v;
-        i += 1;
+    for b in s {
+        w = walked(w, *b);
     }
     let n = refusal(w);
     if n == 0 {
