@@ -86,10 +86,8 @@ pub fn bytes(text: &[u8], b: &mut [u8; 64]) -> usize
         digits: 0,
         quoted: false,
     };
-    let mut i = 0usize;
-    while i < text.len() {
-        p = read_on(b, p, text[i]);
-        i += 1;
+    for c in text {
+        p = read_on(b, p, *c);
     }
     bytes_of(p.digits)
 }

@@ -71,9 +71,7 @@ fn hex(to: Stdout, b: u8) {
 // All bytes of an output, on a line of their own.
 pub fn bytes(to: Stdout, b: &[u8]) {
     line(to);
-    let mut i = 0usize;
-    while i < b.len() {
-        hex(to, b[i]);
-        i += 1;
+    for byte in b {
+        hex(to, *byte);
     }
 }

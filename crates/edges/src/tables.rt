@@ -147,9 +147,7 @@ fn emptied(t: Table) -> Table {
 // The table emptied, and reports received at so many offsets, from the highest to the lowest.
 pub fn fill(to: Stdout, t: Table, x: Row) -> Table {
     let mut u = emptied(t);
-    let mut i = narrow(x.a);
-    while 0 < i {
-        i -= 1;
+    for i in (0..narrow(x.a)).rev() {
         u = taken(u, i);
     }
     show::equals(to);
