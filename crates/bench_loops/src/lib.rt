@@ -1,4 +1,6 @@
 // Loops that the benchmarks time: the two receiving calls as a Rattle program makes them, on packets of 16 bytes.
+#![tactic(auto)]
+
 ghost use Rattle.std.specs.Prelude.{◌≡◌, true};
 ghost use Rattle.model.specs.Table.{table_of, valid};
 

@@ -1,4 +1,6 @@
 // The numbers in a block header of four bytes (RFC 2198).
+#![tactic(auto)]
+
 ghost use Rattle.std.specs.Prelude.{◌+◌, ◌*◌, ◌/◌, ◌%◌, ◌≤◌, ◌≡◌, length};
 ghost use Rattle.block_fields.specs.Fields.{offset_at, length_at};
 

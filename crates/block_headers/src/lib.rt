@@ -1,4 +1,6 @@
 // The block headers of a redundant packet's payload (RFC 2198), read once.
+#![tactic(auto)]
+
 ghost use Rattle.std.specs.Prelude.{◌+◌, ◌≤◌, min, ◌≡◌, length};
 ghost use Rattle.block_headers.specs.Headers.{none_yet, Room, one_more, refused_scan, scan_of};
 
@@ -7,7 +9,7 @@ use numbers::raised_if;
 
 // What the headers of a payload say: refusal 0, where the blocks' data start and how many blocks are of the type asked for; or
 // refusal 18 or 19 and zeros.
-#[derive(Drop)]
+#[derive(Clone, Copy)]
 pub struct Scanned {
     pub body: usize,
     pub of_type: usize,
@@ -26,7 +28,7 @@ fn sum_up_to(most: usize, a: usize, b: usize) -> usize
 }
 
 // What has been read of the headers: where the next one stands, the lengths so far, and how many are of the type asked for.
-#[derive(Drop)]
+#[derive(Clone, Copy)]
 struct SoFar {
     at: usize,
     total: usize,

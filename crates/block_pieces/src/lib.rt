@@ -1,4 +1,6 @@
 // The pieces of a redundant packet in a lent output. With n older reports the last block's header stands at 12 + 4 n, the data after it.
+#![tactic(auto)]
+
 ghost use Rattle.std.specs.Prelude.{◌≡◌, ◌+◌, ◌*◌, ◌≤◌, ◌<◌, length};
 ghost use Rattle.model.specs.Blocks.{header_of};
 ghost use Rattle.model.specs.WriteRedundant.{older_written};

@@ -1,4 +1,6 @@
 // The ranges of refusal 12 for a redundant packet: its types, and each report's numbers.
+#![tactic(auto)]
+
 ghost use Rattle.std.specs.Prelude.{◌≡◌};
 ghost use Rattle.model.specs.Table.{types_differ};
 ghost use Rattle.model.specs.WriteRedundant.{older_given, older_in_range, all_older_in_range, redundant_in_range};

@@ -1,4 +1,6 @@
 // One block of a packet, heard and its answer entered, or passed over.
+#![tactic(auto)]
+
 ghost use Rattle.std.specs.Prelude.{◌≡◌, true, ◌&&◌, ◌+◌, ◌≤◌, ◌<◌, length, set};
 ghost use Rattle.model.specs.Table.{table_of, valid};
 ghost use Rattle.model.specs.Redundant.{entry_of};
@@ -69,7 +71,7 @@ fn take_block(
 }
 
 // How many segments are held, and how many entries are written.
-#[derive(Drop)]
+#[derive(Clone, Copy)]
 pub struct Entered {
     pub count: usize,
     pub entries: usize,

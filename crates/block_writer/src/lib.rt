@@ -1,4 +1,6 @@
 // Writing a report and up to two older ones, as the blocks of one redundant packet, into a lent output: n older ones make 17 + 8 n bytes.
+#![tactic(auto)]
+
 ghost use Rattle.std.specs.Prelude.{◌≡◌, ◌+◌, ◌*◌, ◌≤◌, length};
 ghost use Rattle.model.specs.Answers.{told_write};
 ghost use Rattle.model.specs.Table.{place};

@@ -1,4 +1,6 @@
 // A whole capture in one call: the packets of a buffer's RFC 4571 frames, received in place one after another.
+#![tactic(auto)]
+
 ghost use Rattle.std.specs.Prelude.{◌≡◌, true};
 ghost use Rattle.model.specs.Table.{table_of, holding, valid};
 ghost use Rattle.model.specs.Capture.{receive_capture};

@@ -1,4 +1,6 @@
 // A set of event codes with the codes of a range besides.
+#![tactic(auto)]
+
 ghost use Rattle.std.specs.Prelude.{◌≡◌, ◌≤◌, ltb};
 ghost use Rattle.model.specs.Codes.{word};
 ghost use Rattle.code_ranges.specs.Ranges.{below, with_range};

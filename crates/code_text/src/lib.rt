@@ -1,4 +1,6 @@
 // The text of a set of event codes, as `0-15,66,70`: numbers and ranges, joined by commas.
+#![tactic(auto)]
+
 ghost use Rattle.std.specs.Prelude.{◌≡◌, ◌≤◌, length};
 ghost use Rattle.model.specs.Codes.{told_codes};
 ghost use Rattle.code_text.specs.CodeText.{read_codes};
@@ -9,7 +11,7 @@ use decimal::{Next, next_number};
 use model::{Codes, CodesAnswer};
 
 // What stands between two commas: the codes from the first up to the last, which for a number are one, or something else.
-#[derive(Drop)]
+#[derive(Clone, Copy)]
 enum Found {
     Range { first: u32, last: u32 },
     Nothing,

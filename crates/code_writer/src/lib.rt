@@ -1,4 +1,6 @@
 // Writing a set of event codes as text: a rising list with the longest ranges.
+#![tactic(auto)]
+
 ghost use Rattle.std.specs.Prelude.{◌≡◌, true, ◌+◌, ◌<◌, ◌≤◌, length};
 ghost use Rattle.model.specs.Codes.{is_in, told_text};
 ghost use Rattle.code_writer.specs.CodesWritten.{write_codes};

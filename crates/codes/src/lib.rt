@@ -1,4 +1,6 @@
 // Sets of event codes: whether a code is in one, how many are, and which is the lowest.
+#![tactic(auto)]
+
 ghost use Rattle.std.specs.Prelude.{◌≡◌, ◌<◌, ◌≤◌, ◌/◌, ◌%◌, ◌^◌, eqb};
 ghost use Rattle.model.specs.Codes.{is_in, is_empty, empty_set, the_keys, count_of, lowest_of, told_lowest};
 ghost use Rattle.codes.specs.Words.{PlusOnes, LowestFrom};

@@ -1,9 +1,11 @@
 // Decimal numbers: read digit by digit, and one digit written.
+#![tactic(auto)]
+
 ghost use Rattle.std.specs.Prelude.{◌≡◌, ◌≤◌};
 ghost use Rattle.decimal.specs.Decimal.{digit, next_number};
 
 // What a number becomes when a character follows it.
-#[derive(Drop)]
+#[derive(Clone, Copy)]
 pub enum Next {
     Number(u32),
     NoDigit,

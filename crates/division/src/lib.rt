@@ -1,7 +1,9 @@
 // Division by shifts and subtractions, for a processor that has no divide instruction.
+#![tactic(auto)]
+
 ghost use Rattle.std.specs.Prelude.{◌*◌, ◌/◌, ◌%◌, ◌^◌, ◌<◌, ◌≡◌};
 
-#[derive(Drop)]
+#[derive(Clone, Copy)]
 pub struct Divided {
     pub quotient: u32,
     pub remainder: u32,

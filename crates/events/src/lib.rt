@@ -1,4 +1,6 @@
 // The events of a receiving table whose columns are lent: the event at a number, and what the list call answers.
+#![tactic(auto)]
+
 ghost use Rattle.std.specs.Prelude.{◌≡◌, ◌<◌, length};
 ghost use Rattle.model.specs.Answers.{told_event};
 ghost use Rattle.model.specs.Table.{table_of};

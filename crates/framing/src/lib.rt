@@ -1,10 +1,12 @@
 // One RFC 4571 frame in a buffer.
+#![tactic(auto)]
+
 ghost use Rattle.std.specs.Prelude.{◌≡◌, ◌≤◌, length};
 ghost use Rattle.framing.specs.Frame.{frame_at};
 
 // What stands at a place of a buffer: a whole frame, whose packet goes from `start` up to `end`; or the rest, which has none at its
 // start: nothing, one byte of a length, or a frame that the buffer's end cuts short.
-#[derive(Drop)]
+#[derive(Clone, Copy)]
 pub enum Frame {
     Whole { start: usize, end: usize },
     Rest,

@@ -1,4 +1,6 @@
 // Which segments of two columns make an event.
+#![tactic(auto)]
+
 mod event;
 mod segments;
 

@@ -1,4 +1,6 @@
 // The first stage of reading an RTP packet (RFC 3550, 5.1): its header, as far as the payload's place.
+#![tactic(auto)]
+
 ghost use Rattle.std.specs.Prelude.{◌≡◌, ◌≤◌, length};
 ghost use Rattle.model.specs.Packet.{marker, payload_type, sequence, timestamp, ssrc, after_header};
 ghost use Rattle.header.specs.Stage.{start_of, end_of, header_of, refusal_of_header};
@@ -6,14 +8,14 @@ ghost use Rattle.header.specs.Stage.{start_of, end_of, header_of, refusal_of_hea
 use big_endian::{number_16, number_32};
 
 // A place in a packet.
-#[derive(Drop)]
+#[derive(Clone, Copy)]
 pub enum Place {
     At(usize),
     Nowhere,
 }
 
 // The first stage's answer: where the payload starts and ends.
-#[derive(Drop)]
+#[derive(Clone, Copy)]
 pub enum Header {
     Found { start: usize, end: usize },
     Refused(u8),

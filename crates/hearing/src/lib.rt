@@ -1,4 +1,6 @@
 // What a payload says, at its timestamp and with its marker, as a table with this head hears it. No segment takes part.
+#![tactic(auto)]
+
 ghost use Rattle.std.specs.Prelude.{◌≡◌};
 ghost use Rattle.hearing.specs.Sayings.{arrival, hearing_of, refusal_of_hearing};
 
@@ -8,7 +10,7 @@ use payload::{Payload, payload_of, payload_refusal};
 use segment::{heard_of, key_of};
 
 // The two numbers of the segment that a report says something of.
-#[derive(Drop)]
+#[derive(Clone, Copy)]
 pub enum Hearing {
     Heard { key: u64, told: u32 },
     Refused(u8),

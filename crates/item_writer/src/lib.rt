@@ -1,4 +1,6 @@
 // The text of one item of a set of event codes, put at a place: a code, or a range of them.
+#![tactic(auto)]
+
 ghost use Rattle.std.specs.Prelude.{◌+◌, ◌≤◌, length};
 ghost use Rattle.item_writer.specs.Items.{Puts, number_after, range_text};
 

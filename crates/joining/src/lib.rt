@@ -1,4 +1,6 @@
 // Two segments of a code, or an event and a segment: whether the one continues the other, and what they make.
+#![tactic(auto)]
+
 ghost use Rattle.std.specs.Prelude.{◌≡◌, [], ◌+◌, ◌*◌, ◌≤◌};
 ghost use Rattle.model.specs.Events.{continues, event_of};
 ghost use Rattle.joining.specs.Joining.{lengthened};

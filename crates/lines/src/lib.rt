@@ -1,11 +1,13 @@
 // A line of session.txt: a name, a decimal number and a newline.
+#![tactic(auto)]
+
 ghost use Rattle.std.specs.Prelude.{◌≡◌, ◌≤◌, length, drop};
 ghost use Rattle.lines.specs.Lines.{starts_with, line_of, number_at, line_at};
 
 use decimal::{Next, next_number};
 
 // Why a line is none of a session.
-#[derive(Drop)]
+#[derive(Clone, Copy)]
 pub enum Fault {
     Name, // it does not begin with its name and `=`
     NoNumber, // nothing stands between the `=` and the newline
@@ -17,7 +19,7 @@ pub enum Fault {
 }
 
 // One line: its number, and the place after its newline.
-#[derive(Drop)]
+#[derive(Clone, Copy)]
 pub enum Line {
     Read { number: u32, end: usize },
     Wrong(Fault),

@@ -1,4 +1,6 @@
 // The first step of receiving a packet that may be redundant: all refusals but 16, and where its blocks stand.
+#![tactic(auto)]
+
 ghost use Rattle.std.specs.Prelude.{◌≡◌};
 ghost use Rattle.locating.specs.Located.{is_for, header_for_both, unlocated, locating, first_step};
 
@@ -21,7 +23,7 @@ fn is_for(payload_type: u8, both_types: u8, redundant_type: u8, kind: u8) -> boo
 }
 
 // Where a packet's blocks stand, and whether it is plain: then it has one block, whose body is all its payload.
-#[derive(Drop)]
+#[derive(Clone, Copy)]
 pub struct Located {
     pub cursor: Cursor,
     pub plain: bool,

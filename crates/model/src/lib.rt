@@ -1,8 +1,9 @@
 // The types of the library. What they mean stands in specs/; there is no function here.
+#![tactic(auto)]
 
 // A set of event codes, 0 to 255, a bit for each: the lowest bit of `from_0` is code 0, the highest of `from_192` code 255.
 #[repr(C)]
-#[derive(Drop)]
+#[derive(Clone, Copy)]
 pub struct Codes {
     pub from_0: u64,
     pub from_64: u64,
@@ -13,7 +14,7 @@ pub struct Codes {
 // One report on the wire: an RTP packet that carries one telephone event (RFC 3550, 5.1; RFC 4733, 2.3).
 // Numbers with a range narrower than their type are tested by whoever takes a Report.
 #[repr(C)]
-#[derive(Drop)]
+#[derive(Clone, Copy)]
 pub struct Report {
     pub marker: bool,
     pub payload_type: u32,
@@ -29,7 +30,7 @@ pub struct Report {
 // What a sender plans for one event. `sequence` is the first sequence number, `start` the first timestamp, `segment_size` what
 // each segment but the last holds, in timestamp units.
 #[repr(C)]
-#[derive(Drop)]
+#[derive(Clone, Copy)]
 pub struct Plan {
     pub payload_type: u32,
     pub ssrc: u32,
@@ -46,7 +47,7 @@ pub struct Plan {
 // whether E and M were heard.
 // `offset` is document 01's term: (timestamp - origin) modulo 2^32.
 #[repr(C)]
-#[derive(Drop)]
+#[derive(Clone, Copy)]
 pub struct Segment {
     pub offset: u32,
     pub code: u8,
@@ -61,7 +62,7 @@ pub struct Segment {
 // type, where nothing looks at `redundant_type`; else that is the payload type of redundant packets. It is no bool, so that every byte
 // that is read back from a file stands for one of the two.
 #[repr(C)]
-#[derive(Drop)]
+#[derive(Clone, Copy)]
 pub struct Head {
     pub payload_type: u8,
     pub both_types: u8,
@@ -75,7 +76,7 @@ pub struct Head {
 // The receiving table: the first `count` places of its two columns hold segments, by offset, then code. A segment is kept in
 // two numbers, its key and what was heard of it (specs/Table.antt draws them).
 #[repr(C)]
-#[derive(Drop)]
+#[derive(Clone, Copy)]
 pub struct Table {
     pub head: Head,
     pub keys: [u64; 128],
@@ -85,7 +86,7 @@ pub struct Table {
 // One event of the list. `code` is the key, `start` an offset; `volume` and `quietest` are the smallest and the largest volume number;
 // `began`: the first segment was marked; `ended`: the last segment has E.
 #[repr(C)]
-#[derive(Drop)]
+#[derive(Clone, Copy)]
 pub struct Event {
     pub code: u8,
     pub start: u32,
@@ -97,49 +98,49 @@ pub struct Event {
 }
 
 // What reading a text of codes answers.
-#[derive(Drop)]
+#[derive(Clone, Copy)]
 pub enum CodesAnswer {
     Read(Codes),
     Refused(u8),
 }
 
 // The lowest code of a set.
-#[derive(Drop)]
+#[derive(Clone, Copy)]
 pub enum LowestAnswer {
     Lowest(u32),
     Refused(u8),
 }
 
 // What writing a set of codes answers: how many bytes its text has.
-#[derive(Drop)]
+#[derive(Clone, Copy)]
 pub enum TextAnswer {
     Written(usize),
     Refused(u8),
 }
 
 // What reading a packet answers.
-#[derive(Drop)]
+#[derive(Clone, Copy)]
 pub enum ReadAnswer {
     Read(Report),
     Refused(u8),
 }
 
 // What writing a packet answers: a report given, or a report of a plan.
-#[derive(Drop)]
+#[derive(Clone, Copy)]
 pub enum WriteAnswer {
     Written,
     Refused(u8),
 }
 
 // How many reports a plan has.
-#[derive(Drop)]
+#[derive(Clone, Copy)]
 pub enum CountAnswer {
     Reports(u32),
     Refused(u8),
 }
 
 // The event at one number.
-#[derive(Drop)]
+#[derive(Clone, Copy)]
 pub enum EventAnswer {
     Found(Event),
     Refused(u8),
@@ -147,14 +148,14 @@ pub enum EventAnswer {
 
 // An opened table; refusal 0, or the refusal's number with the empty table of zeros.
 #[repr(C)]
-#[derive(Drop)]
+#[derive(Clone, Copy)]
 pub struct Opened {
     pub table: Table,
     pub refusal: u8,
 }
 
 // Where the search for a pair among the segments held ends, and how many of them it looked at.
-#[derive(Drop)]
+#[derive(Clone, Copy)]
 pub struct Lookup {
     pub place: usize,
     pub probes: usize,
@@ -164,7 +165,7 @@ pub struct Lookup {
 // number; how many segments are held after it; and how many the search for the report's pair looked at, 0 if there was none.
 // Why the refusal has 64 bits stands in docs/DECISIONS.md.
 #[repr(C)]
-#[derive(Drop)]
+#[derive(Clone, Copy)]
 pub struct Received {
     pub refusal: u64,
     pub is_new: bool,
@@ -176,7 +177,7 @@ pub struct Received {
 // bytes of the buffer its whole frames use; and how many of their packets were taken, how many were refused, and how many of these
 // with 17. Under 16 the count is as before, and the others are 0.
 #[repr(C)]
-#[derive(Drop)]
+#[derive(Clone, Copy)]
 pub struct Captured {
     pub refusal: u8,
     pub count: usize,
@@ -189,7 +190,7 @@ pub struct Captured {
 // Where a walk over the blocks of a redundant packet stands: the places of the next block's header and of its body, its data, and
 // where the payload ends. At a cursor of zeros there is no block.
 #[repr(C)]
-#[derive(Drop)]
+#[derive(Clone, Copy)]
 pub struct Cursor {
     pub header: usize,
     pub body: usize,
@@ -198,7 +199,7 @@ pub struct Cursor {
 
 // What the start of a walk answers: refusal 0 and the cursor at the first block, or the refusal's number and a cursor of zeros.
 #[repr(C)]
-#[derive(Drop)]
+#[derive(Clone, Copy)]
 pub struct WalkStart {
     pub cursor: Cursor,
     pub refusal: u8,
@@ -208,7 +209,7 @@ pub struct WalkStart {
 // `start` up to `end` of the packet; and the cursor after it. If there are no more, `found` is false, the cursor is as it was, and
 // the others are zeros.
 #[repr(C)]
-#[derive(Drop)]
+#[derive(Clone, Copy)]
 pub struct BlockStep {
     pub after: Cursor,
     pub start: usize,
@@ -223,7 +224,7 @@ pub struct BlockStep {
 // length is that of an older block's data; it is 0 for the primary, whose data go to the payload's end. If there are no more, `found` is
 // false, the place is as it was, and the others are zeros.
 #[repr(C)]
-#[derive(Drop)]
+#[derive(Clone, Copy)]
 pub struct HeaderStep {
     pub next: usize,
     pub length: u16,
@@ -236,7 +237,7 @@ pub struct HeaderStep {
 // What receiving a packet that may be redundant answers beside the columns and entries lent to it: refusal 0 and how many entries were
 // written, one for each block of the event's type, or the refusal's number and 0; and how many segments are held after it.
 #[repr(C)]
-#[derive(Drop)]
+#[derive(Clone, Copy)]
 pub struct BlocksReceived {
     pub blocks: usize,
     pub count: usize,
@@ -245,7 +246,7 @@ pub struct BlocksReceived {
 
 // An older report that a redundant packet repeats. A block has no marker, sequence number or SSRC of its own.
 #[repr(C)]
-#[derive(Drop)]
+#[derive(Clone, Copy)]
 pub struct OlderReport {
     pub timestamp: u32,
     pub code: u32,
@@ -256,7 +257,7 @@ pub struct OlderReport {
 
 // What the list call answers beside the lent records: refusal 0 and the number of events, or the refusal's number and 0.
 #[repr(C)]
-#[derive(Drop)]
+#[derive(Clone, Copy)]
 pub struct Listed {
     pub refusal: u8,
     pub events: usize,

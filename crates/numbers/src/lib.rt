@@ -1,4 +1,6 @@
 // Numbers that several crates need.
+#![tactic(auto)]
+
 ghost use Rattle.std.specs.Prelude.{◌+◌, ◌<◌, ◌≡◌};
 ghost use Rattle.model.specs.Packet.{bit, minus};
 

@@ -1,4 +1,6 @@
 // Opening a receiving table, for one payload type or for two.
+#![tactic(auto)]
+
 ghost use Rattle.std.specs.Prelude.{◌≡◌, true, false};
 ghost use Rattle.model.specs.Codes.{empty_set};
 ghost use Rattle.model.specs.Table.{one_type, both_types, empty_table, opened_if, opened, opened_both};

@@ -1,4 +1,6 @@
 // The second stage of reading: the payload, which is one report (RFC 4733, 2.3).
+#![tactic(auto)]
+
 ghost use Rattle.std.specs.Prelude.{◌≡◌};
 ghost use Rattle.payload.specs.Stage.{payload_of, refusal_of_payload};
 
@@ -7,7 +9,7 @@ use codes::contains_byte;
 use model::Codes;
 
 // The second stage's answer: the payload's fields.
-#[derive(Drop)]
+#[derive(Clone, Copy)]
 pub enum Payload {
     Report {
         code: u8,

@@ -1,4 +1,6 @@
 // The ranges of a plan's numbers, and how many reports it has.
+#![tactic(auto)]
+
 ghost use Rattle.std.specs.Prelude.{◌≤◌, ◌≡◌, true, length};
 ghost use Rattle.model.specs.Answers.{told_count};
 ghost use Rattle.model.specs.Plan.{lengths_in_range, plan_in_range, report_count, reports};

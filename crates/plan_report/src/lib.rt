@@ -1,4 +1,6 @@
 // The report at a number of a plan.
+#![tactic(auto)]
+
 ghost use Rattle.std.specs.Prelude.{◌+◌, ◌%◌, ◌≤◌, ◌<◌, ◌≡◌, true};
 ghost use Rattle.model.specs.Answers.{told_write};
 ghost use Rattle.model.specs.Plan.{lengths_in_range, report_at, write_report};

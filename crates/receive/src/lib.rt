@@ -1,5 +1,7 @@
 // The receiving call, in place on a table whose columns are lent. Each of the three functions takes apart what was heard by itself: as a
 // step of its own this is more than the compiler puts into them.
+#![tactic(auto)]
+
 ghost use Rattle.std.specs.Prelude.{◌≤◌, ◌≡◌, true};
 ghost use Rattle.model.specs.Table.{table_of, holding, valid};
 ghost use Rattle.model.specs.Receive.{receive};

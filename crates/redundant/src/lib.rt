@@ -1,4 +1,6 @@
 // The receiving call for packets that may be redundant (RFC 2198), in place on a table whose columns are lent.
+#![tactic(auto)]
+
 ghost use Rattle.std.specs.Prelude.{◌≡◌, true, length};
 ghost use Rattle.model.specs.Table.{table_of, holding, valid};
 ghost use Rattle.model.specs.Redundant.{receive_redundant};

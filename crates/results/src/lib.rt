@@ -1,4 +1,6 @@
 // Structs that hold a refusal's number in place of the enum answers, for C and Rust: refusal 0 and the values, or the number and zeros.
+#![tactic(auto)]
+
 ghost use Rattle.std.specs.Prelude.{◌≡◌};
 ghost use Rattle.model.specs.Answers.{no_report, no_event, told_read, told_write, told_count, told_event};
 ghost use Rattle.model.specs.Codes.{told_codes, told_text, told_lowest};
@@ -11,7 +13,7 @@ use model::{
 
 // A report, or the number of the refusal and zeros.
 #[repr(C)]
-#[derive(Drop)]
+#[derive(Clone, Copy)]
 pub struct ReadResult {
     pub report: Report,
     pub refusal: u8,
@@ -19,7 +21,7 @@ pub struct ReadResult {
 
 // How many reports a plan has, or the number of the refusal and 0.
 #[repr(C)]
-#[derive(Drop)]
+#[derive(Clone, Copy)]
 pub struct CountResult {
     pub reports: u32,
     pub refusal: u8,
@@ -27,7 +29,7 @@ pub struct CountResult {
 
 // An event, or the number of the refusal and zeros.
 #[repr(C)]
-#[derive(Drop)]
+#[derive(Clone, Copy)]
 pub struct EventResult {
     pub event: Event,
     pub refusal: u8,
@@ -35,7 +37,7 @@ pub struct EventResult {
 
 // A set, or the number of the refusal and the empty set.
 #[repr(C)]
-#[derive(Drop)]
+#[derive(Clone, Copy)]
 pub struct CodesResult {
     pub codes: Codes,
     pub refusal: u8,
@@ -43,7 +45,7 @@ pub struct CodesResult {
 
 // How many bytes a text has, or the number of the refusal and 0.
 #[repr(C)]
-#[derive(Drop)]
+#[derive(Clone, Copy)]
 pub struct TextResult {
     pub bytes: usize,
     pub refusal: u8,
@@ -51,7 +53,7 @@ pub struct TextResult {
 
 // A code, or the number of the refusal and 0.
 #[repr(C)]
-#[derive(Drop)]
+#[derive(Clone, Copy)]
 pub struct LowestResult {
     pub code: u32,
     pub refusal: u8,

@@ -1,11 +1,13 @@
 // The place of a key among those held, which are a part of a column: a window.
+#![tactic(auto)]
+
 ghost use Rattle.std.specs.Prelude.{◌+◌, ◌/◌, ◌≤◌, ◌≡◌, ◌&&◌, ltb, eqb, length, get_or};
 ghost use Rattle.searching.specs.Seeks.{Finds, Seeks, SeeksIn};
 
 use model::Lookup;
 
 // Where a key stands or belongs, how many keys were looked at to find that, and whether it stands there.
-#[derive(Drop)]
+#[derive(Clone, Copy)]
 pub struct Sought {
     pub place: usize,
     pub probes: usize,

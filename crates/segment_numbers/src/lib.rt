@@ -1,4 +1,6 @@
 // A segment and the two numbers that a table keeps it in, both ways, for whoever stores a table or builds one. Any numbers are answered.
+#![tactic(auto)]
+
 ghost use Rattle.std.specs.Prelude.{◌+◌, ◌*◌, ◌%◌, ◌≤◌, ◌≡◌, cond, leb};
 ghost use Rattle.model.specs.Packet.{bit};
 ghost use Rattle.segment_numbers.specs.BothWays.{segment_shown, numbers_of};
@@ -8,7 +10,7 @@ use segment::{key_of, segment_of};
 
 // A segment's key, and what was heard of it.
 #[repr(C)]
-#[derive(Drop)]
+#[derive(Clone, Copy)]
 pub struct SegmentNumbers {
     pub key: u64,
     pub heard: u32,

@@ -1,4 +1,6 @@
 // The text of session.txt: three lines, each a name, a decimal number and a newline.
+#![tactic(auto)]
+
 ghost use Rattle.std.specs.Prelude.{◌≡◌};
 ghost use Rattle.session.specs.Session.{fault_of, session_of};
 ghost use Rattle.session.specs.declared.Session.TheVariants.{Bad};
@@ -7,7 +9,7 @@ pub use lines::Fault;
 use lines::{Line, line_at};
 
 // What a session's text gives: its numbers, or which line is wrong, counted from 1, and why.
-#[derive(Drop)]
+#[derive(Clone, Copy)]
 pub enum Session {
     Given {
         payload_type: u32,

@@ -1,4 +1,6 @@
 // A report taken into columns that are lent.
+#![tactic(auto)]
+
 ghost use Rattle.std.specs.Prelude.{◌≡◌, true, ◌≤◌, ◌<◌, length, get_or, set};
 ghost use Rattle.model.specs.Table.{table_of, valid};
 ghost use Rattle.model.specs.Receive.{refused_with};

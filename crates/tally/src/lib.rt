@@ -1,4 +1,6 @@
 // What a capture comes to, frame by frame: the packets taken and refused, and the bytes used.
+#![tactic(auto)]
+
 ghost use Rattle.std.specs.Prelude.{◌≤◌, ◌≡◌};
 ghost use Rattle.tally.specs.Counts.{uncounted, none_yet, Room, one_more, captured};
 
@@ -20,7 +22,7 @@ pub fn uncounted(refusal: u8, count: usize) -> Captured
 }
 
 // What has been received of a buffer: the segments held, the bytes used, the packets, those refused, and those refused with 17.
-#[derive(Drop)]
+#[derive(Clone, Copy)]
 pub struct Tally {
     pub count: usize,
     pub used: usize,

@@ -1,1 +1,2 @@
 // The laws and theorems over the definitions of `model`; there is no function here.
+#![tactic(auto)]

@@ -1,5 +1,7 @@
 // What C and Rust link: the library's calls, with the structs of `results` in place of enums. A slice crosses as a pointer and a length.
 // Every function checks its own input; refusal 0 means that nothing was refused.
+#![tactic(auto)]
+
 ghost use Rattle.std.specs.Prelude.{◌≤◌, ◌≡◌};
 ghost use Rattle.model.specs.Packet.{read, write};
 ghost use Rattle.model.specs.Plan.{report_count, write_report};
@@ -190,8 +192,8 @@ pub extern "C" fn twimbor_list_columns<'a>(
     heard: &'a [u32; 128],
     out: &mut [Event],
 ) -> Listed
-    ensures { (result ≡ (list (table_of head keys.now heard.now) out.old).answer)
-        × (out.new ≡ (list (table_of head keys.now heard.now) out.old).records) }
+    ensures value { result ≡ (list (table_of head keys.now heard.now) out.old).answer }
+    ensures out_after { out.new ≡ (list (table_of head keys.now heard.now) out.old).records }
 {
     let a = events::answer_for(head, keys, heard, out.len());
     let n = a.events;

@@ -4,6 +4,8 @@
 // is looked at by itself. Of two numbers that are compared the difference is gathered: its highest bit tells which is larger, and is
 // among the bits that all differences have if all are so. There are two steps, each small enough for the compiler to put it into a
 // receiving call.
+#![tactic(auto)]
+
 ghost use Rattle.std.specs.Prelude.{◌≡◌, ◌≤◌, length};
 ghost use Rattle.model.specs.Table.{valid_types, valid, table_of};
 ghost use Rattle.valid.specs.Passes.{CodesPass, Weighs, HeardPass, Tells, Ranks, Highest};

@@ -1,4 +1,6 @@
 // The walker: it stands on a packet and hands out the next block as a part of the caller's bytes.
+#![tactic(auto)]
+
 ghost use Rattle.std.specs.Prelude.{min, ◌≡◌};
 ghost use Rattle.model.specs.Walk.{walk_start, block_step, part_of};
 
@@ -48,9 +50,9 @@ pub fn part_of(s: &[u8], start: usize, end: usize) -> &[u8]
 
 // Starts a walk over a packet's blocks: refusals 1 to 4, 18 and 19.
 pub fn start<'a>(packet: &'a [u8]) -> Started<'a>
-    ensures { (result.refusal ≡ (walk_start packet.now).refusal)
-        × (result.walker.cursor ≡ (walk_start packet.now).cursor)
-        × (result.walker.packet ≡ packet.entry) }
+    ensures refusal { result.refusal ≡ (walk_start packet.now).refusal }
+    ensures cursor { result.walker.cursor ≡ (walk_start packet.now).cursor }
+    ensures same_packet { result.walker.packet ≡ packet.entry }
 {
     let s = walk_start(packet);
     let cursor = s.cursor;
@@ -66,10 +68,10 @@ pub fn start<'a>(packet: &'a [u8]) -> Started<'a>
 
 // The next block, if there is one more.
 pub fn next<'a>(w: Walker<'a>) -> Part<'a>
-    ensures { (result.step ≡ block_step w.entry.packet.now w.entry.cursor)
-        × (result.block.now ≡ part_of w.entry.packet.now result.step.start result.step.end)
-        × (result.rest.packet ≡ w.entry.packet)
-        × (result.rest.cursor ≡ result.step.after) }
+    ensures step { result.step ≡ block_step w.entry.packet.now w.entry.cursor }
+    ensures block { result.block.now ≡ part_of w.entry.packet.now result.step.start result.step.end }
+    ensures same_packet { result.rest.packet ≡ w.entry.packet }
+    ensures cursor { result.rest.cursor ≡ result.step.after }
 {
     let step = block_step(w.packet, w.cursor);
     let block = part_of(w.packet, step.start, step.end);

@@ -13,6 +13,7 @@ use types.Kit.{‵, ◌⊛◌, ◌$◌, ◌∵◌, !, qed, move, keep, use0, use
 use denote.RattleType.{RattleType, Denots, Valss, owns}
 use denote.Laws.{Is}
 use denote.Builtin.{u8}
+use denote.Plain.{uint_row_laws}
 use denote.Ref.{Bor}
 use denote.Slice.{slice_ty, slice_val, ShrSlice, shr_slice_vals, shr_slice_Lawful, shr_slice_copy}
 use denote.Steps.{nothing}
@@ -39,7 +40,7 @@ module _ {M : Type 1} {𝓤 : Ura M} (𝓛 : Logic 𝓤) (κ : Lft) (p : Bor (Li
   typed_slice l is = ((shr_slice_Lawful 𝓛 l κ u8).typed p (shr_slice_vals p) is).0
 
   pub slice_twice : ent 𝓤 (sem 𝓛 (own_slice κ p)) (sep 𝓤 (sem 𝓛 (own_slice κ p)) (sem 𝓛 (own_slice κ p)))
-  slice_twice = (shr_slice_copy 𝓛 (named 0) κ u8).twice p (shr_slice_vals p)
+  slice_twice = (shr_slice_copy 𝓛 (named 0) κ u8 (uint_row_laws w8)).twice p (shr_slice_vals p)
 
   module _ (q : Share) where
     abbrev token : SProp 𝓤

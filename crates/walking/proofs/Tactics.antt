@@ -6,8 +6,8 @@ use mathlib.Core.List.{[], ◌∷◌, ◌++◌, List}
 use mathlib.Core.Option.{Option, none, some}
 use lib.Dec.{T as Holds}
 use seplogic.Ra.Ura.{Ura}
-use seplogic.Ra.TreeShare.{full_share}
-use mir.Syntax.{Name, Sym, Ty, Tys, ty_struct, Place, place, field, Opd as Operand, Rv as RValue, copy, Body, seq, assign, call}
+use base.Fraction.{full_share}
+use mir.Syntax.{Callee as Function, Sym, Ty, Tys, ty_struct, Place, place, field, Opd as Operand, Rv as RValue, copy, Body, seq, assign, call}
 use mir.Val.{Val, Vals, vstruct, WT, has_ty}
 use mir.Fields.{get_v}
 use base.Logic.{SProp, ent, sep, emp, guard, via, assoc∗, comm∗, emp∗, mono_l, mono_r, fst∗, snd∗, id⊢, ex_e}
@@ -17,7 +17,6 @@ use prog.Wp.{Env, Calls, Loops, Spot, spot_of, release}
 use types.Logic.{Logic, sem}
 use contract.Monad.{fact}
 use types.Kit.{
-  Given,
   Item,
   ‵,
   raw,
@@ -183,9 +182,9 @@ module _ {M : Type 1} {𝓤 : Ura M} (𝓛 : Logic 𝓤) (T : Ended) (c : Clause
     abbrev Knows : R.Denot → Type 0
     Knows r = φ r × Is R r (vals r)
 
-    pub covered : {C : Calls 𝓤 H} {f : Name} → FmC 𝓤 H 𝓛.laws C → Triple 𝓤 (C f) Callee
+    pub covered : {C : Calls 𝓤 H} {f : Function} → FmC 𝓤 H 𝓛.laws C → Triple 𝓤 (C f) Callee
         → ent 𝓤 (mean 𝓛 i) (sep 𝓤 (Callee.pre y) rest)
-        → ((r : R.Denot) → ent 𝓤 (sep 𝓤 (sem 𝓛 (R.own r (vals r))) (sep 𝓤 tokens rest)) (mean 𝓛 (j r)))
+        → ((r : R.Denot) → ent 𝓤 (sep 𝓤 (sem 𝓛 (R.own_val r (vals r))) (sep 𝓤 tokens rest)) (mean 𝓛 (j r)))
         → ((r : R.Denot) (ws : Lasts T y.0.0 y.0.3)
         → ent 𝓤 ((c y.0.0 y.0.3).ensures y.1 r (at_exit T y.0.0 y.0.3 ws)) (fact 𝓤 (φ r)))
         → ent 𝓤 (mean 𝓛 i) (C f (Callee.args y) (λ v. mean 𝓛 (gave j (λ r. only (vals r)) Knows v)))
@@ -199,16 +198,16 @@ module _ {M : Type 1} {𝓤 : Ura M} (𝓛 : Logic 𝓤) (T : Ended) (c : Clause
 
         hears : (v : Val) → ent 𝓤 (sep 𝓤 (Callee.post y v) rest) (mean 𝓛 (gave j (λ r. only (vals r)) Knows v))
         hears v =
-            qed 𝓛 (later (any (λ r. (raw tokens ⊛ ‵ (R.own r (v ∷ []))) ⊛ raw (ensured 𝓛 T c y.0.0 y.0.3 y.1 r))) ∷ raw rest ∷ []) ∵
+            qed 𝓛 (later (any (λ r. (raw tokens ⊛ ‵ (R.own_val r (v ∷ []))) ⊛ raw (ensured 𝓛 T c y.0.0 y.0.3 y.1 r))) ∷ raw rest ∷ []) ∵
             updating ! $ await ! tt $ pick ! (λ r. split ! $ move ! (1 ∷ []) $ use1 𝓛 (raw (fact 𝓤 (φ r))) (said r) $ heard ! (φ r) (λ e.
             split ! $ move ! (1 ∷ []) $ peeks ! R (Is R) (shows 𝓛 R) r (v ∷ []) (λ is.
-            rewrite ! 0 (λ (vs : List Val). ‵ (R.own r vs)) (tells r _ is) refl $
+            rewrite ! 0 (λ (vs : List Val). ‵ (R.own_val r vs)) (tells r _ is) refl $
             now ! $ show ! (λ (x : R.Denot). guard 𝓤 ((v ≡ only (vals x)) × Knows x) (mean 𝓛 (j x))) r $
             check ! (ap only (tells r _ is), (e, subst (Is R r) (tells r _ is) is)) $ by ! (back r))))
 
 -- the call's step: before it the caller has i first, and after it j r
 module _ {M : Type 1} {𝓤 : Ura M} {𝓛 : Logic 𝓤} {K : Type 0}
-    {Γ : List (Item 𝓤)} {E : Env 𝓤 𝓛.H} {C : Calls 𝓤 𝓛.H} {f : Name} where
+    {Γ : List (Item 𝓤)} {E : Env 𝓤 𝓛.H} {C : Calls 𝓤 𝓛.H} {f : Function} where
   open 𝓛 use {H}
 
   pub calls_gave : K → FmC 𝓤 H 𝓛.laws C → {Λ : Loops 𝓤 H} {z : Post 𝓤 H} {xs : List Operand} {d : Place} {rest : Body}

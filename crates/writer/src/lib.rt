@@ -1,4 +1,6 @@
 // Writing a report's 16 bytes into a lent output.
+#![tactic(auto)]
+
 ghost use Rattle.std.specs.Prelude.{◌≡◌, ◌+◌, ◌*◌, ◌/◌, ◌%◌, ◌≤◌, length};
 ghost use Rattle.model.specs.Answers.{told_write};
 ghost use Rattle.model.specs.Packet.{bit, header_bytes, payload_bytes, report_in_range, write};
