@@ -1,5 +1,5 @@
 //! Finds the static library: in the folder that TWIMBOR_LIB names, else where
-//! `rt staticlib twimbor` writes it. One of another version than the crate's is refused.
+//! `tools/build twimbor` writes it. One of another version than the crate's is refused.
 
 use std::path::{Path, PathBuf};
 use std::{env, fs, str};
@@ -31,7 +31,7 @@ fn version_of(archive: &[u8]) -> Option<String> {
 fn unfit(library: &Path) -> Option<String> {
     let Ok(archive) = fs::read(library) else {
         return Some(format!(
-            "{} is not there: run `rt staticlib twimbor` at the root of the repository, or let \
+            "{} is not there: run `tools/build twimbor` at the root of the repository, or let \
              TWIMBOR_LIB name the folder of libtwimbor.a",
             library.display()
         ));
