@@ -2,10 +2,9 @@
 ghost use Rattle.std.specs.Prelude.{◌≤◌};
 
 use crate::row::digit;
-use std::num::wrapping_add_usize;
 
 // How many digits were read, two for each byte, and whether a text between quotes has begun.
-#[derive(Drop)]
+#[derive(Clone, Copy)]
 struct Place {
     digits: usize,
     quoted: bool,
@@ -54,7 +53,7 @@ fn put_text(b: &mut [u8; 64], digits: usize, c: u8) {
 
 fn after(p: Place, digits: usize) -> Place {
     Place {
-        digits: wrapping_add_usize(p.digits, digits),
+        digits: p.digits.wrapping_add(digits),
         quoted: p.quoted,
     }
 }
@@ -87,10 +86,8 @@ pub fn bytes(text: &[u8], b: &mut [u8; 64]) -> usize
         digits: 0,
         quoted: false,
     };
-    let mut i = 0usize;
-    while i < text.len() {
-        p = read_on(b, p, text[i]);
-        i += 1;
+    for c in text {
+        p = read_on(b, p, *c);
     }
     bytes_of(p.digits)
 }

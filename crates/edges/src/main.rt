@@ -1,5 +1,7 @@
 // Makes the calls that standard input names, a row for each, and prints each row with what the call answered; the file stdout has
 // what must come. docs/TESTDATA.md says how a row is written and where the answers come from.
+#![tactic(auto)]
+
 ghost use Rattle.std.specs.Prelude.{◌≤◌, length};
 
 mod given;
@@ -12,64 +14,76 @@ mod tables;
 mod texts;
 mod walks;
 
-use bytes::scan::find;
 use model::{Codes, Head, Table};
 use row::Row;
+use std::io::Stdout;
+
+// The place of the first such byte from a place on, or the end.
+fn find(s: &[u8], from: usize, byte: u8) -> usize
+    requires { from ≤ length s.now }
+    ensures low { from ≤ result }
+    ensures high { result ≤ length s.now }
+{
+    match s[from..].iter().position(|x| *x == byte) {
+        Some(k) => from + k,
+        None => s.len(),
+    }
+}
 
 // Calls on sets of codes, on texts and on blocks.
-fn text_row(set: Codes, x: Row, b: &[u8]) {
+fn text_row(to: Stdout, set: Codes, x: Row, b: &[u8]) {
     let name = x.name;
     match name {
-        names::TEXT => sets::read(b),
-        names::LENT => sets::lent(set, x),
-        names::CONTAINS => sets::contains(set, x),
-        names::SESSION => texts::session(b),
-        names::FRAME => texts::frame(x, b),
-        names::WALK => walks::walk(b),
-        names::STEP => walks::step(x, b),
+        names::TEXT => sets::read(to, b),
+        names::LENT => sets::lent(to, set, x),
+        names::CONTAINS => sets::contains(to, set, x),
+        names::SESSION => texts::session(to, b),
+        names::FRAME => texts::frame(to, x, b),
+        names::WALK => walks::walk(to, b),
+        names::STEP => walks::step(to, x, b),
         _ => {}
     }
 }
 
 // Calls on packets and plans.
-fn packet_row(set: Codes, x: Row, b: &[u8]) {
+fn packet_row(to: Stdout, set: Codes, x: Row, b: &[u8]) {
     let name = x.name;
     match name {
-        names::READ => packets::read(set, b),
-        names::WRITE => packets::write(set, x),
-        names::WRITE_REDUNDANT => packets::write_redundant(set, x),
-        names::COUNT => packets::count(set, x),
-        names::REPORT => packets::report(set, x),
-        _ => text_row(set, x, b),
+        names::READ => packets::read(to, set, b),
+        names::WRITE => packets::write(to, set, x),
+        names::WRITE_REDUNDANT => packets::write_redundant(to, set, x),
+        names::COUNT => packets::count(to, set, x),
+        names::REPORT => packets::report(to, set, x),
+        _ => text_row(to, set, x, b),
     }
 }
 
 // Calls that leave the table as it is.
-fn told_row(t: Table, x: Row, b: &[u8]) {
+fn told_row(to: Stdout, t: Table, x: Row, b: &[u8]) {
     let name = x.name;
     match name {
-        names::SEGMENT => tables::segment(t, x),
-        names::EVENT => tables::event(t, x),
-        names::LOOK => tables::look(t, x),
-        names::CAPTURE => tables::capture(t, b),
-        names::REDUNDANT => tables::redundant(t, x, b),
-        _ => packet_row(t.head.codes, x, b),
+        names::SEGMENT => tables::segment(to, t, x),
+        names::EVENT => tables::event(to, t, x),
+        names::LOOK => tables::look(to, t, x),
+        names::CAPTURE => tables::capture(to, t, b),
+        names::REDUNDANT => tables::redundant(to, t, x, b),
+        _ => packet_row(to, t.head.codes, x, b),
     }
 }
 
 // The table after a row.
-fn table_row(t: Table, x: Row, b: &[u8]) -> Table {
+fn table_row(to: Stdout, t: Table, x: Row, b: &[u8]) -> Table {
     let name = x.name;
     match name {
-        names::SET => tables::set(t, x),
-        names::OPEN => tables::open(t, x),
-        names::OPEN_REDUNDANT => tables::open_redundant(t, x),
-        names::RECEIVE => tables::receive(t, b),
-        names::FILL => tables::fill(t, x),
+        names::SET => tables::set(to, t, x),
+        names::OPEN => tables::open(to, t, x),
+        names::OPEN_REDUNDANT => tables::open_redundant(to, t, x),
+        names::RECEIVE => tables::receive(to, t, b),
+        names::FILL => tables::fill(to, t, x),
         names::PUT => tables::put(t, x),
-        names::TABLE => tables::table(t, x),
+        names::TABLE => tables::table(to, t, x),
         _ => {
-            told_row(t, x, b);
+            told_row(to, t, x, b);
             t
         }
     }
@@ -87,15 +101,15 @@ fn lent(b: &mut [u8; 64], x: Row, line: &[u8], colon: usize) -> usize
     given::bytes(&line[colon + 1..n], b)
 }
 
-fn run(t: Table, b: &mut [u8; 64], line: &[u8]) -> Table {
-    let colon = find(line, 0, line.len(), b':');
+fn run(to: Stdout, t: Table, b: &mut [u8; 64], line: &[u8]) -> Table {
+    let colon = find(line, 0, b':');
     let x = row::row_of(&line[0..colon]);
     if x.name == names::COMMENT {
         return t;
     }
     let n = lent(b, x, line, colon);
     let all = &b[..];
-    table_row(t, x, &all[0..n])
+    table_row(to, t, x, &all[0..n])
 }
 
 fn no_table() -> Table {
@@ -115,16 +129,16 @@ fn no_table() -> Table {
     }
 }
 
-fn rows(text: &[u8]) {
+fn rows(to: Stdout, text: &[u8]) {
     let mut t = no_table();
     let mut b = [0u8; 64];
     let mut at = 0usize;
     while at < text.len() {
-        let end = find(text, at, text.len(), b'\n');
+        let end = find(text, at, b'\n');
         let line = &text[at..end];
-        show::text(line);
-        t = run(t, &mut b, line);
-        show::line();
+        show::text(to, line);
+        t = run(to, t, &mut b, line);
+        show::line(to);
         if end == text.len() {
             return;
         }
@@ -132,8 +146,8 @@ fn rows(text: &[u8]) {
     }
 }
 
-fn main() {
-    let mut text = io::large_buffer();
-    let n = io::read_full(0, &mut text);
-    rows(&text[0..n]);
+fn main(rt: HostRuntime) {
+    let mut text = [0u8; 65536];
+    let got = input::read_full(&mut rt.stdin(), &mut text);
+    rows(rt.stdout(), &text[0..got.bytes]);
 }

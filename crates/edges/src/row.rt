@@ -1,11 +1,9 @@
 // A row taken apart: NAME NUMBER NUMBER .. : BYTES
 ghost use Rattle.std.specs.Prelude.{◌<◌, ◌≤◌};
 
-use std::num::wrapping_add_u32;
-
 // The first eight letters of the name as one number, and the numbers after it; 0 where there is none. While a row is read, its last
 // number so far is in v.
-#[derive(Drop)]
+#[derive(Clone, Copy)]
 pub struct Row {
     pub name: u64,
     words: u32,
@@ -68,7 +66,7 @@ fn empty() -> Row {
 pub fn rest(x: Row) -> Row {
     Row {
         name: x.name,
-        words: wrapping_add_u32(x.words, 1),
+        words: x.words.wrapping_add(1),
         hexadecimal: false,
         a: x.b,
         b: x.c,
@@ -158,12 +156,10 @@ fn aligned(x: Row) -> Row {
 
 pub fn row_of(line: &[u8]) -> Row {
     let mut x = empty();
-    let mut i = 0usize;
-    while i < line.len() {
-        x = read_on(x, line[i]);
-        i += 1;
+    for c in line {
+        x = read_on(x, *c);
     }
-    for turn in 0..22u32 {
+    for _ in 0..22u32 {
         x = aligned(x);
     }
     x

@@ -4,6 +4,7 @@ use crate::row::Row;
 use crate::{sets, show};
 use model::{BlocksReceived, Captured, Event, EventAnswer, Head, Opened, Received, Table};
 use segment::key_of;
+use std::io::Stdout;
 
 fn with_head(t: Table, head: Head) -> Table {
     let k = t.keys;
@@ -16,55 +17,55 @@ fn with_head(t: Table, head: Head) -> Table {
 }
 
 // The set that calls then have.
-pub fn set(t: Table, x: Row) -> Table {
+pub fn set(to: Stdout, t: Table, x: Row) -> Table {
     let chosen = sets::set_of(x);
-    sets::told(chosen);
+    sets::told(to, chosen);
     let mut head = t.head;
     head.codes = chosen;
     with_head(t, head)
 }
 
 // The table that was opened, or the one before.
-fn opened(t: Table, o: Opened) -> Table {
-    show::answer(o.refusal);
+fn opened(to: Stdout, t: Table, o: Opened) -> Table {
+    show::answer(to, o.refusal);
     if o.refusal != 0 {
         return t;
     }
     o.table
 }
 
-fn head_told(head: Head) {
-    show::equals();
-    show::byte(head.payload_type);
-    show::word(head.ssrc);
-    show::word(head.origin);
+fn head_told(to: Stdout, head: Head) {
+    show::equals(to);
+    show::byte(to, head.payload_type);
+    show::word(to, head.ssrc);
+    show::word(to, head.origin);
 }
 
 // Payload type, SSRC, origin.
-pub fn open(t: Table, x: Row) -> Table {
+pub fn open(to: Stdout, t: Table, x: Row) -> Table {
     let o = opening::open(t.head.codes, x.a, x.b, x.c);
-    head_told(o.table.head);
-    opened(t, o)
+    head_told(to, o.table.head);
+    opened(to, t, o)
 }
 
-fn types_told(head: Head) {
-    show::equals();
-    show::byte(head.payload_type);
-    show::byte(head.both_types);
-    show::byte(head.redundant_type);
-    show::word(head.ssrc);
-    show::word(head.origin);
+fn types_told(to: Stdout, head: Head) {
+    show::equals(to);
+    show::byte(to, head.payload_type);
+    show::byte(to, head.both_types);
+    show::byte(to, head.redundant_type);
+    show::word(to, head.ssrc);
+    show::word(to, head.origin);
 }
 
 // Payload type, redundant payload type, SSRC, origin.
-pub fn open_redundant(t: Table, x: Row) -> Table {
+pub fn open_redundant(to: Stdout, t: Table, x: Row) -> Table {
     let o = opening::open_redundant(t.head.codes, x.a, x.b, x.c, x.d);
-    types_told(o.table.head);
-    opened(t, o)
+    types_told(to, o.table.head);
+    opened(to, t, o)
 }
 
 // A table after a receiving call, and the answer.
-#[derive(Drop)]
+#[derive(Clone, Copy)]
 struct After {
     table: Table,
     answer: Received,
@@ -88,31 +89,31 @@ fn received_by(t: Table, packet: &[u8]) -> After {
     }
 }
 
-fn new() {
-    show::text(b" -> new");
+fn new(to: Stdout) {
+    show::text(to, b" -> new");
 }
 
-fn known() {
-    show::text(b" -> known");
+fn known(to: Stdout) {
+    show::text(to, b" -> known");
 }
 
 // How many segments were looked at, how many are held; new, known or the refusal's number.
-fn received(a: Received) {
-    show::size(a.probes);
-    show::size(a.count);
+fn received(to: Stdout, a: Received) {
+    show::size(to, a.probes);
+    show::size(to, a.count);
     if a.refusal != 0 {
-        show::answer((a.refusal % 256) as u8);
+        show::answer(to, (a.refusal % 256) as u8);
     } else if a.is_new {
-        new();
+        new(to);
     } else {
-        known();
+        known(to);
     }
 }
 
-pub fn receive(t: Table, packet: &[u8]) -> Table {
+pub fn receive(to: Stdout, t: Table, packet: &[u8]) -> Table {
     let a = received_by(t, packet);
-    show::equals();
-    received(a.answer);
+    show::equals(to);
+    received(to, a.answer);
     a.table
 }
 
@@ -144,34 +145,32 @@ fn emptied(t: Table) -> Table {
 }
 
 // The table emptied, and reports received at so many offsets, from the highest to the lowest.
-pub fn fill(t: Table, x: Row) -> Table {
+pub fn fill(to: Stdout, t: Table, x: Row) -> Table {
     let mut u = emptied(t);
-    let mut i = narrow(x.a);
-    while 0 < i {
-        i -= 1;
+    for i in (0..narrow(x.a)).rev() {
         u = taken(u, i);
     }
-    show::equals();
-    show::size(u.head.count);
+    show::equals(to);
+    show::size(to, u.head.count);
     u
 }
 
 // How many segments are looked at for a report.
-fn look_at(t: Table, offset: u32, code: u32) {
+fn look_at(to: Stdout, t: Table, offset: u32, code: u32) {
     let a = after_report(t, narrow(offset), narrow(code));
-    show::size(a.answer.probes);
+    show::size(to, a.answer.probes);
 }
 
 // Seven pairs of offset and code, and the looks for each.
-pub fn look(t: Table, x: Row) {
-    show::equals();
-    look_at(t, x.a, x.b);
-    look_at(t, x.c, x.d);
-    look_at(t, x.e, x.f);
-    look_at(t, x.g, x.h);
-    look_at(t, x.i, x.j);
-    look_at(t, x.k, x.l);
-    look_at(t, x.m, x.n);
+pub fn look(to: Stdout, t: Table, x: Row) {
+    show::equals(to);
+    look_at(to, t, x.a, x.b);
+    look_at(to, t, x.c, x.d);
+    look_at(to, t, x.e, x.f);
+    look_at(to, t, x.g, x.h);
+    look_at(to, t, x.i, x.j);
+    look_at(to, t, x.k, x.l);
+    look_at(to, t, x.m, x.n);
 }
 
 // Duration, volume, quietest, E and M in one number.
@@ -224,111 +223,111 @@ fn head_of(head: Head, x: Row) -> Head {
     h
 }
 
-fn passes(t: Table) {
-    show::flag(valid::is_valid(t.head, &t.keys, &t.heard));
+fn passes(to: Stdout, t: Table) {
+    show::flag(to, valid::is_valid(t.head, &t.keys, &t.heard));
 }
 
 // Payload type, both types, redundant type and count of a table that no call made: whether it passes the tests, and what it answers to
 // no bytes.
-pub fn table(t: Table, x: Row) -> Table {
+pub fn table(to: Stdout, t: Table, x: Row) -> Table {
     let u = with_head(t, head_of(t.head, x));
-    show::equals();
-    passes(u);
-    show::bar();
+    show::equals(to);
+    passes(to, u);
+    show::bar(to);
     let a = received_by(u, b"");
-    received(a.answer);
+    received(to, a.answer);
     u
 }
 
-fn segment_told(key: u64, told: u32) {
-    show::equals();
-    show::number(key / 256);
-    show::number(key % 256);
-    show::word(told % 65536);
-    show::word(told / 0x100_0000);
-    show::word(told / 0x4_0000 % 64);
-    show::word(told / 0x1_0000 % 2);
-    show::word(told / 0x2_0000 % 2);
+fn segment_told(to: Stdout, key: u64, told: u32) {
+    show::equals(to);
+    show::number(to, key / 256);
+    show::number(to, key % 256);
+    show::word(to, told % 65536);
+    show::word(to, told / 0x100_0000);
+    show::word(to, told / 0x4_0000 % 64);
+    show::word(to, told / 0x1_0000 % 2);
+    show::word(to, told / 0x2_0000 % 2);
 }
 
 // Offset, code, duration, volume, quietest, E and M of the segment at a place.
-pub fn segment(t: Table, x: Row) {
+pub fn segment(to: Stdout, t: Table, x: Row) {
     let place = size(x.a);
-    segment_told(t.keys[place], t.heard[place]);
+    segment_told(to, t.keys[place], t.heard[place]);
 }
 
-fn event_told(v: Event) {
-    show::equals();
-    show::byte(v.code);
-    show::word(v.start);
-    show::word(v.length);
-    show::byte(v.volume);
-    show::byte(v.quietest);
-    show::flag(v.began);
-    show::flag(v.ended);
-    show::answer(0);
+fn event_told(to: Stdout, v: Event) {
+    show::equals(to);
+    show::byte(to, v.code);
+    show::word(to, v.start);
+    show::word(to, v.length);
+    show::byte(to, v.volume);
+    show::byte(to, v.quietest);
+    show::flag(to, v.began);
+    show::flag(to, v.ended);
+    show::answer(to, 0);
 }
 
 // The event at a number.
-pub fn event(t: Table, x: Row) {
+pub fn event(to: Stdout, t: Table, x: Row) {
     let a = events::event_at(t.head, &t.keys, &t.heard, x.a);
     match a {
-        EventAnswer::Found(v) => event_told(v),
-        EventAnswer::Refused(n) => show::answer(n),
+        EventAnswer::Found(v) => event_told(to, v),
+        EventAnswer::Refused(n) => show::answer(to, n),
     }
 }
 
-fn captured(c: Captured) {
-    show::equals();
-    show::size(c.count);
-    show::size(c.used);
-    show::size(c.taken);
-    show::size(c.refused);
-    show::size(c.packed);
-    show::answer(c.refusal);
+fn captured(to: Stdout, c: Captured) {
+    show::equals(to);
+    show::size(to, c.count);
+    show::size(to, c.used);
+    show::size(to, c.taken);
+    show::size(to, c.refused);
+    show::size(to, c.packed);
+    show::answer(to, c.refusal);
 }
 
 // What a copy of the table receives of frames: the segments held, the bytes used, and the packets taken, refused and packed.
-pub fn capture(t: Table, frames: &[u8]) {
+pub fn capture(to: Stdout, t: Table, frames: &[u8]) {
     let mut k = t.keys;
     let mut h = t.heard;
-    captured(capture::receive_capture(t.head, &mut k, &mut h, frames));
+    captured(to, capture::receive_capture(t.head, &mut k, &mut h, frames));
 }
 
-fn blocks_told(r: BlocksReceived) {
-    show::equals();
-    show::size(r.blocks);
-    show::size(r.count);
-    show::bar();
+fn blocks_told(to: Stdout, r: BlocksReceived) {
+    show::equals(to);
+    show::size(to, r.blocks);
+    show::size(to, r.count);
+    show::bar(to);
 }
 
-fn entries_told(e: [u32; 4]) {
-    show::word(e[0]);
-    show::word(e[1]);
-    show::word(e[2]);
-    show::word(e[3]);
-    show::bar();
+fn entries_told(to: Stdout, e: [u32; 4]) {
+    show::word(to, e[0]);
+    show::word(to, e[1]);
+    show::word(to, e[2]);
+    show::word(to, e[3]);
+    show::bar(to);
 }
 
-fn places_told(k: [u64; 128], h: [u32; 128]) {
-    show::number(k[0]);
-    show::word(h[0]);
-    show::number(k[1]);
-    show::word(h[1]);
+fn places_told(to: Stdout, k: [u64; 128], h: [u32; 128]) {
+    show::number(to, k[0]);
+    show::word(to, h[0]);
+    show::number(to, k[1]);
+    show::word(to, h[1]);
 }
 
 // What a copy of the table answers to a packet, with the first entries of four lent: the entries written, the segments held, all four
 // entries, and the numbers in the first two places.
-pub fn redundant(t: Table, x: Row, packet: &[u8]) {
+pub fn redundant(to: Stdout, t: Table, x: Row, packet: &[u8]) {
     let room = size(x.a);
     if room <= 4 {
         let mut k = t.keys;
         let mut h = t.heard;
         let mut e = [9u32; 4];
         let r = redundant::receive_redundant(t.head, &mut k, &mut h, packet, &mut e[0..room]);
-        blocks_told(r);
-        entries_told(e);
-        places_told(k, h);
-        show::answer(r.refusal);
+        blocks_told(to, r);
+        entries_told(to, e);
+        places_told(to, k, h);
+        show::answer(to, r.refusal);
     }
 }

@@ -4,90 +4,91 @@ use crate::row::Row;
 use crate::show;
 use framing::{Frame, frame_at};
 use session::{Fault, Session, session_of};
+use std::io::Stdout;
 
-fn name() {
-    show::text(b" name");
+fn name(to: Stdout) {
+    show::text(to, b" name");
 }
 
-fn no_number() {
-    show::text(b" no number");
+fn no_number(to: Stdout) {
+    show::text(to, b" no number");
 }
 
-fn leading_zero() {
-    show::text(b" leading zero");
+fn leading_zero(to: Stdout) {
+    show::text(to, b" leading zero");
 }
 
-fn no_digit() {
-    show::text(b" no digit");
+fn no_digit(to: Stdout) {
+    show::text(to, b" no digit");
 }
 
-fn too_large() {
-    show::text(b" too large");
+fn too_large(to: Stdout) {
+    show::text(to, b" too large");
 }
 
-fn no_newline() {
-    show::text(b" no newline");
+fn no_newline(to: Stdout) {
+    show::text(to, b" no newline");
 }
 
-fn more_text() {
-    show::text(b" more text");
+fn more_text(to: Stdout) {
+    show::text(to, b" more text");
 }
 
-fn fault(f: Fault) {
+fn fault(to: Stdout, f: Fault) {
     match f {
-        Fault::Name => name(),
-        Fault::NoNumber => no_number(),
-        Fault::LeadingZero => leading_zero(),
-        Fault::NoDigit => no_digit(),
-        Fault::TooLarge => too_large(),
-        Fault::NoNewline => no_newline(),
-        Fault::MoreText => more_text(),
+        Fault::Name => name(to),
+        Fault::NoNumber => no_number(to),
+        Fault::LeadingZero => leading_zero(to),
+        Fault::NoDigit => no_digit(to),
+        Fault::TooLarge => too_large(to),
+        Fault::NoNewline => no_newline(to),
+        Fault::MoreText => more_text(to),
     }
 }
 
-fn bad() {
-    show::text(b" bad");
+fn bad(to: Stdout) {
+    show::text(to, b" bad");
 }
 
-fn session_told(a: Session) {
+fn session_told(to: Stdout, a: Session) {
     match a {
         Session::Given {
             payload_type,
             ssrc,
             origin,
         } => {
-            show::word(payload_type);
-            show::word(ssrc);
-            show::word(origin);
+            show::word(to, payload_type);
+            show::word(to, ssrc);
+            show::word(to, origin);
         }
         Session::Bad { line, fault: f } => {
-            bad();
-            show::byte(line);
-            fault(f);
+            bad(to);
+            show::byte(to, line);
+            fault(to, f);
         }
     }
 }
 
-pub fn session(text: &[u8]) {
-    show::equals();
-    session_told(session_of(text));
+pub fn session(to: Stdout, text: &[u8]) {
+    show::equals(to);
+    session_told(to, session_of(text));
 }
 
-fn frame_told(f: Frame) {
+fn frame_told(to: Stdout, f: Frame) {
     match f {
         Frame::Whole { start, end } => {
-            show::size(start);
-            show::size(end);
+            show::size(to, start);
+            show::size(to, end);
         }
-        Frame::Rest => show::none(),
+        Frame::Rest => show::none(to),
     }
 }
 
 // The frame at a place.
-pub fn frame(x: Row, frames: &[u8]) {
+pub fn frame(to: Stdout, x: Row, frames: &[u8]) {
     let at = size(x.a);
     if at <= frames.len() {
-        show::equals();
-        frame_told(frame_at(frames, at));
+        show::equals(to);
+        frame_told(to, frame_at(frames, at));
     }
 }

@@ -3,42 +3,43 @@ use crate::row::Row;
 use crate::show;
 use blocks::step::{block_step, walk_start};
 use model::{BlockStep, Cursor};
+use std::io::Stdout;
 
 // A block: its type, its offset, its data's places, and whether it is the primary.
-fn block(s: BlockStep) {
-    show::bar();
-    show::byte(s.payload_type);
-    show::half(s.offset);
-    show::size(s.start);
-    show::size(s.end);
-    show::flag(s.primary);
+fn block(to: Stdout, s: BlockStep) {
+    show::bar(to);
+    show::byte(to, s.payload_type);
+    show::half(to, s.offset);
+    show::size(to, s.start);
+    show::size(to, s.end);
+    show::flag(to, s.primary);
 }
 
-fn found(s: BlockStep) {
+fn found(to: Stdout, s: BlockStep) {
     if s.found {
-        block(s);
+        block(to, s);
     }
 }
 
 // All blocks, and whether the walk starts.
-pub fn walk(packet: &[u8]) {
+pub fn walk(to: Stdout, packet: &[u8]) {
     let start = walk_start(packet);
     let mut cursor = start.cursor;
     for turn in 0..8u32 {
         let s = block_step(packet, cursor);
-        found(s);
+        found(to, s);
         cursor = s.after;
     }
-    show::answer(start.refusal);
+    show::answer(to, start.refusal);
 }
 
 // The block at a cursor, the cursor after it, and whether there is one.
-fn told(s: BlockStep, after: Cursor) {
-    block(s);
-    show::size(after.header);
-    show::size(after.body);
-    show::size(after.end);
-    show::answer(s.found as u8);
+fn told(to: Stdout, s: BlockStep, after: Cursor) {
+    block(to, s);
+    show::size(to, after.header);
+    show::size(to, after.body);
+    show::size(to, after.end);
+    show::answer(to, s.found as u8);
 }
 
 fn cursor_of(x: Row) -> Cursor {
@@ -49,7 +50,7 @@ fn cursor_of(x: Row) -> Cursor {
     }
 }
 
-pub fn step(x: Row, packet: &[u8]) {
+pub fn step(to: Stdout, x: Row, packet: &[u8]) {
     let s = block_step(packet, cursor_of(x));
-    told(s, s.after);
+    told(to, s, s.after);
 }

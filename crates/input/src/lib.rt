@@ -1,57 +1,62 @@
-// A buffer that is filled from a file, behind what stands in it and is still wanted.
+// A buffer that is filled from a reader, behind what stands in it and is still wanted.
+#![tactic(auto)]
+
 ghost use Rattle.std.specs.Prelude.{◌≤◌, ◌<◌, length};
 ghost use Rattle.input.specs.Buffer.{Refills, Keeps};
 
-// What a read gave: so many bytes, none at the end of the input, or it failed, and errno says why.
-#[derive(Drop)]
+use std::io::{Error, ErrorKind, Read};
+
+// What a read gave: so many bytes, none at the end of the input; or it failed, and why.
+#[derive(Clone, Copy)]
 pub struct Reading {
     pub bytes: usize,
-    pub failed: bool,
+    pub failed: Option<Error>,
 }
 
 // Reads once; a read that a signal interrupts is made again.
-fn read_some(file: i32, room: &mut [u8]) -> Reading
+fn read_some<R: Read>(input: &mut R, room: &mut [u8]) -> Reading
     ensures { result.bytes ≤ length room.new }
 {
-    let mut turns = u64::MAX;
-    while 0 < turns {
-        let got = libc::read(file, room);
-        if 0 <= got {
-            return Reading {
-                bytes: io::count(got, room),
-                failed: false,
-            };
+    for _ in 0..u64::MAX {
+        match input.read(room) {
+            Ok(bytes) => {
+                return Reading {
+                    bytes,
+                    failed: None,
+                };
+            }
+            Err(e) => {
+                if e.kind() != ErrorKind::Interrupted {
+                    return Reading {
+                        bytes: 0,
+                        failed: Some(e),
+                    };
+                }
+            }
         }
-        if os::errno() != libc::EINTR {
-            return Reading {
-                bytes: 0,
-                failed: true,
-            };
-        }
-        turns -= 1;
     }
     Reading {
         bytes: 0,
-        failed: true,
+        failed: Some(Error::from(ErrorKind::Interrupted)),
     }
 }
 
 // Reads once into the buffer from a place on.
-pub fn refill(file: i32, b: &mut [u8], from: usize) -> Reading
+pub fn refill<R: Read>(input: &mut R, b: &mut [u8], from: usize) -> Reading
     requires { from < length b.old }
     ensures { Refills from b.old result.bytes b.new }
 {
     let n = b.len();
-    read_some(file, &mut b[from..n])
+    read_some(input, &mut b[from..n])
 }
 
 // Reads until the buffer is full, the input ends or a read fails.
-pub fn read_full(file: i32, b: &mut [u8]) -> Reading
+pub fn read_full<R: Read>(input: &mut R, b: &mut [u8]) -> Reading
     ensures { result.bytes ≤ length b.new }
 {
     let mut done = 0usize;
     while done < b.len() {
-        let got = refill(file, b, done);
+        let got = refill(input, b, done);
         if got.bytes == 0 {
             return Reading {
                 bytes: done,
@@ -62,7 +67,7 @@ pub fn read_full(file: i32, b: &mut [u8]) -> Reading
     }
     Reading {
         bytes: done,
-        failed: false,
+        failed: None,
     }
 }
 

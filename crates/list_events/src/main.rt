@@ -1,4 +1,6 @@
 // Lists the events of a capture on standard input.
-fn main() {
-    listing::run();
+#![tactic(auto)]
+
+fn main(rt: HostRuntime) {
+    listing::run(&rt);
 }

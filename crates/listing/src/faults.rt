@@ -1,57 +1,51 @@
 // What the listing program says on standard error of a session or a capture that it cannot use.
+use printing::complain;
 use session::Fault;
+use std::io::Error;
 
-fn say(text: &[u8]) {
-    io::write_all(libc::STDERR_FILENO, text);
+pub fn input_closed<R: Eprint>(rt: &R) {
+    let _ = eprintln!(rt; "list-events: standard input is closed");
 }
 
-pub fn input_closed() {
-    say(b"list-events: standard input is closed\n");
+// Why the file could not be opened or read.
+pub fn no_session<R: Eprint + AllocGlobal>(rt: &R, why: Error) {
+    complain(rt, "session.txt", why);
 }
 
-// Why the last call on the file failed.
-pub fn no_session() {
-    os::fail(b"list-events: session.txt");
+pub fn no_capture<R: Eprint + AllocGlobal>(rt: &R, why: Error) {
+    complain(rt, "the capture", why);
 }
 
-pub fn no_capture() {
-    os::fail(b"list-events: the capture");
+fn wrong<R: Eprint>(rt: &R, line: u8, words: &str) {
+    let _ = eprintln!(rt; "list-events: session.txt, line {line}: {words}");
 }
 
-fn line(number: u64) {
-    say(b"list-events: session.txt, line ");
-    io::print_decimal(libc::STDERR_FILENO, number);
-    say(b": ");
-}
-
-fn name(line: u8) {
+fn name(line: u8) -> &'static str {
     match line {
-        1 => say(b"pt="),
-        2 => say(b"ssrc="),
-        _ => say(b"origin="),
+        1 => "it does not begin with pt=",
+        2 => "it does not begin with ssrc=",
+        _ => "it does not begin with origin=",
     }
 }
 
-pub fn payload_type() {
-    line(1);
-    say(b"the payload type is above 127\n");
+pub fn payload_type<R: Eprint>(rt: &R) {
+    wrong(rt, 1, "the payload type is above 127");
 }
 
-pub fn wrong_line(number: u8, fault: Fault) {
-    line(number as u64);
+fn words(number: u8, fault: Fault) -> &'static str {
     match fault {
-        Fault::Name => {
-            say(b"it does not begin with ");
-            name(number);
+        Fault::Name => name(number),
+        Fault::NoNumber => "no number stands after the =",
+        Fault::LeadingZero => "the number has a leading zero",
+        Fault::NoDigit => {
+            "something else than digits stands after the = (a space, a carriage return?)"
         }
-        Fault::NoNumber => say(b"no number stands after the ="),
-        Fault::LeadingZero => say(b"the number has a leading zero"),
-        Fault::NoDigit => say(
-            b"something else than digits stands after the = (a space, a carriage return?)",
-        ),
-        Fault::TooLarge => say(b"the number is above 4294967295"),
-        Fault::NoNewline => say(b"it does not end with a newline"),
-        Fault::MoreText => say(b"there may be three lines, and nothing after them"),
+        Fault::TooLarge => "the number is above 4294967295",
+        Fault::NoNewline => "it does not end with a newline",
+        Fault::MoreText => "there may be three lines, and nothing after them",
     }
-    say(b"\n");
+}
+
+pub fn wrong_line<R: Eprint>(rt: &R, number: u8, fault: Fault) {
+    wrong(rt, number, words(number, fault));
 }

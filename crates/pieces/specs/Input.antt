@@ -1,5 +1,5 @@
 -- What the listing program has received of an input that comes in pieces (01, "The listing program"; 02, requests 1 and 5).
-use Rattle.std.specs.Prelude.{◌≡◌, ℕ, ◌+◌, ◌%◌, ◌^◌, ◌≤◌, List, [], ◌∷◌, ◌++◌, length, take, drop}
+use Rattle.std.specs.Prelude.{◌≡◌, ℕ, ◌+◌, ◌%◌, ◌^◌, ◌≤◌, List, [], ◌∷◌, ◌++◌, length, take}
 use Rattle.model.specs.declared.Table.{Table}
 use Rattle.model.specs.declared.Captured.{Captured}
 use Rattle.model.specs.Table.{table_of}

@@ -3,10 +3,9 @@ ghost use Rattle.std.specs.Prelude.{◌≡◌};
 ghost use Rattle.pieces.specs.Input.{added};
 
 use model::Captured;
-use std::num::wrapping_add_u64;
 
 // How many packets were taken, how many were refused, and how many of these for being packed.
-#[derive(Drop)]
+#[derive(Clone, Copy)]
 pub struct Counts {
     pub taken: u64,
     pub refused: u64,
@@ -18,8 +17,8 @@ pub fn added(c: Counts, piece: Captured) -> Counts
     ensures { result ≡ added c piece }
 {
     Counts {
-        taken: wrapping_add_u64(c.taken, piece.taken as u64),
-        refused: wrapping_add_u64(c.refused, piece.refused as u64),
-        packed: wrapping_add_u64(c.packed, piece.packed as u64),
+        taken: c.taken.wrapping_add(piece.taken as u64),
+        refused: c.refused.wrapping_add(piece.refused as u64),
+        packed: c.packed.wrapping_add(piece.packed as u64),
     }
 }

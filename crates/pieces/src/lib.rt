@@ -1,4 +1,6 @@
 // A capture, read in pieces into a buffer that stays the same, and received piece by piece.
+#![tactic(auto)]
+
 ghost use Rattle.std.specs.Prelude.{◌≡◌, ◌≤◌, true, length};
 ghost use Rattle.model.specs.Table.{table_of, valid};
 ghost use Rattle.pieces.specs.Input.{GoesOn, HasReceived};
@@ -10,21 +12,22 @@ pub use counts::Counts;
 use counts::added;
 use input::{keep, refill};
 use model::Head;
+use std::io::{Error, ErrorKind, Read};
 
 // What has been received: the head of the table whose columns are lent, the counts, and how many bytes of the input, at the front of
 // the buffer, are left: a part of one frame.
-#[derive(Drop)]
+#[derive(Clone, Copy)]
 pub struct SoFar {
     pub head: Head,
     pub counts: Counts,
     pub left: usize,
 }
 
-// All that was received of an input, up to its end or to a read that failed.
-#[derive(Drop)]
+// All that was received of an input, up to its end or to a read that failed, and why that failed.
+#[derive(Clone, Copy)]
 pub struct Arrived {
     pub so_far: SoFar,
-    pub failed: bool,
+    pub failed: Option<Error>,
 }
 
 // Room for the longest frame, 65,537 bytes, and as much to read ahead.
@@ -57,7 +60,12 @@ fn go_on(
 
 // Reads a capture, and receives its frames. What is left in the buffer after a pass is a part of one frame, so there
 // is always room to read more.
-pub fn received(head: Head, keys: &mut [u64; 128], heard: &mut [u32; 128], file: i32) -> Arrived
+pub fn received<R: Read>(
+    head: Head,
+    keys: &mut [u64; 128],
+    heard: &mut [u32; 128],
+    input: &mut R,
+) -> Arrived
     requires { valid (table_of head keys.old heard.old) ≡ true }
     ensures { HasReceived (table_of head keys.old heard.old) result.so_far keys.new heard.new }
 {
@@ -73,10 +81,9 @@ pub fn received(head: Head, keys: &mut [u64; 128], heard: &mut [u32; 128], file:
         counts: none,
         left: 0,
     };
-    let mut turns = u64::MAX;
-    while 0 < turns {
+    for _ in 0..u64::MAX {
         let from = so_far.left;
-        let got = refill(file, b, from);
+        let got = refill(input, b, from);
         if got.bytes == 0 {
             return Arrived {
                 so_far: so_far,
@@ -84,10 +91,9 @@ pub fn received(head: Head, keys: &mut [u64; 128], heard: &mut [u32; 128], file:
             };
         }
         so_far = go_on(so_far, keys, heard, b, from + got.bytes);
-        turns -= 1;
     }
     Arrived {
         so_far: so_far,
-        failed: true,
+        failed: Some(Error::from(ErrorKind::TimedOut)),
     }
 }

@@ -1,13 +1,17 @@
 // What the listing program prints: it is put together in one buffer, and written at once.
+#![tactic(auto)]
+
 ghost use Rattle.std.specs.Prelude.{◌+◌, ◌≤◌, ◌≡◌, length};
 ghost use Rattle.printing.specs.Output.{Puts};
 
 use grouping::event_from;
+use itoa::Buffer;
 use model::{Event, Head};
 use pieces::{Counts, SoFar};
+use std::io::Error;
 
 // The events that were put into a buffer, and where they end.
-#[derive(Drop)]
+#[derive(Clone, Copy)]
 struct Printed {
     events: usize,
     end: usize,
@@ -20,48 +24,31 @@ fn buffer() -> [u8; 32768]
     [0; 32768]
 }
 
-// Writes once to standard output, and answers how many bytes went out, none if the write failed; a write that a signal interrupts is
-// made again.
-fn write_some(text: &[u8]) -> usize
-    ensures { result ≤ length text.now }
-{
-    let mut turns = u64::MAX;
-    while 0 < turns {
-        let got = libc::write(libc::STDOUT_FILENO, text);
-        if 0 < got {
-            return io::count(got, text);
-        }
-        if os::errno() != libc::EINTR {
-            return 0;
-        }
-        turns -= 1;
+// The system's words for an error, which stand before its number.
+fn words(said: &str) -> &str {
+    match said.split_once(" (os error ") {
+        Some((before, _)) => before,
+        None => said,
     }
-    0
 }
 
-// Writes a text to standard output, and answers whether all of it went out.
-fn written(text: &[u8]) -> bool {
-    let n = text.len();
-    let mut at = 0usize;
-    while at < n {
-        let more = write_some(&text[at..n]);
-        if more == 0 {
-            return false;
-        }
-        at += more;
-    }
-    true
+// Says on standard error what could not be read or written, and why.
+pub fn complain<R: Eprint + AllocGlobal>(rt: &R, what: &str, why: Error) {
+    let _ = match why.to_string(rt.alloc()) {
+        Ok(said) => rt.eprintln(format_args!("list-events: {what}: {}", words(said.as_str()))),
+        Err(_) => rt.eprintln(format_args!("list-events: {what}: {why}")),
+    };
 }
 
 // Writes a text to standard output, or says on standard error why it cannot be written.
-fn print(text: &[u8]) {
-    if !written(text) {
-        os::fail(b"list-events: standard output");
+fn print<R: Print + Eprint + AllocGlobal>(rt: &R, text: &[u8]) {
+    if let Err(e) = rt.write_all(text) {
+        complain(rt, "standard output", e);
     }
 }
 
-pub fn bad_session() {
-    print(b"session=bad\n");
+pub fn bad_session<R: Print + Eprint + AllocGlobal>(rt: &R) {
+    print(rt, b"session=bad\n");
 }
 
 // Puts a text at a place, and answers the place after it.
@@ -78,32 +65,15 @@ fn put(b: &mut [u8], at: usize, text: &[u8]) -> usize
     at + n
 }
 
-// Puts the first k of a number's digits at a place.
-fn put_digits(b: &mut [u8], at: usize, digits: &[u8; 20], k: usize) -> usize
-    requires { at + 20 ≤ length b.old }
-    ensures { Puts 20 at b.old result b.new }
-{
-    let mut i = 0usize;
-    while i < 20 {
-        if k <= i {
-            return at + i;
-        }
-        b[at + i] = digits[i];
-        i += 1;
-    }
-    at + 20
-}
-
 // One line: a name and a number, which has at most 20 digits.
 fn line(b: &mut [u8], at: usize, name: &[u8], n: u64) -> usize
     requires at_in_bounds { at + 32 ≤ length b.old }
     requires name_len_bound { length name.now ≤ 9 }
     ensures { Puts 32 at b.old result b.new }
 {
-    let mut digits = [0u8; 20];
-    let k = io::decimal(n, &mut digits);
+    let mut digits = Buffer::new();
     let named = put(b, at, name);
-    let numbered = put_digits(b, named, &digits, k);
+    let numbered = put(b, named, digits.format(n).as_bytes());
     put(b, numbered, b"\n")
 }
 
@@ -176,8 +146,13 @@ fn list<'a>(b: &mut [u8], c: SoFar, keys: &'a [u64; 128], heard: &'a [u32; 128])
     line(b, all, b"cut=", (0 < c.left) as u64)
 }
 
-pub fn listing<'a>(c: SoFar, keys: &'a [u64; 128], heard: &'a [u32; 128]) {
+pub fn listing<'a, R: Print + Eprint + AllocGlobal>(
+    rt: &R,
+    c: SoFar,
+    keys: &'a [u64; 128],
+    heard: &'a [u32; 128],
+) {
     let mut space = buffer();
     let end = list(&mut space, c, keys, heard);
-    print(&space[0..end]);
+    print(rt, &space[0..end]);
 }

@@ -1,5 +1,6 @@
 // The numbers of the refusals; specs/Refusals.antt has their conditions.
 #![tactic(auto)]
+
 pub const TOO_SHORT: u8 = 1;
 
 pub const WRONG_VERSION: u8 = 2;

@@ -1,11 +1,12 @@
 // The two readers on the same packets: every answer is compared, its number and, where a report is read, each of its fields.
 use super::{reader, sample};
 use model::{ReadAnswer, Report};
+use std::io::Stdout;
 
 const PACKETS: u32 = 500000;
 
 // How many packets had each answer of packet::read, by its number (0: read), and on how many the readers differed.
-#[derive(Drop)]
+#[derive(Clone, Copy)]
 struct Tally {
     answers: [u32; 18],
     differed: u32,
@@ -76,11 +77,11 @@ fn same(a: ReadAnswer, b: ReadAnswer) -> bool {
 fn counted(mut t: Tally, s: &[u8]) -> Tally {
     let a = packet::read(codes::keys(), s);
     if !same(a, reader::read(s)) {
-        t.differed = std::num::wrapping_add_u32(t.differed, 1);
+        t.differed = t.differed.wrapping_add(1);
     }
     let i = number_of(a) as usize;
     if i < 18 {
-        t.answers[i] = std::num::wrapping_add_u32(t.answers[i], 1);
+        t.answers[i] = t.answers[i].wrapping_add(1);
     }
     t
 }
@@ -108,44 +109,38 @@ fn compared() -> Tally {
         answers: none,
         differed: 0,
     };
-    let mut n = PACKETS;
-    while 0 < n {
-        n -= 1;
-        let u = counted_sample(t, n);
-        t = u;
+    for n in 0..PACKETS {
+        t = counted_sample(t, n);
     }
     t
 }
 
 // A line with a name and a count.
-fn line(name: &[u8], n: u32) {
-    io::write_all(1, name);
-    io::print_decimal(1, n as u64);
-    io::write_all(1, b"\n");
+fn line(to: Stdout, name: &str, n: u32) {
+    let _ = println!(to; "{name}: {n}");
 }
 
 // The line of a refusal.
-fn refusal(t: Tally, number: usize) {
+fn refusal(to: Stdout, t: Tally, number: usize) {
     if 18 <= number {
         return;
     }
-    io::write_all(1, b"refusal ");
-    io::print_decimal(1, number as u64);
-    line(b": ", t.answers[number]);
+    let n = t.answers[number];
+    let _ = println!(to; "refusal {number}: {n}");
 }
 
 // Prints a line for each answer, and how often the readers differed.
-pub fn run() {
+pub fn run(to: Stdout) {
     let t = compared();
-    line(b"packets: ", PACKETS);
-    line(b"read: ", t.answers[0]);
-    refusal(t, 1);
-    refusal(t, 2);
-    refusal(t, 3);
-    refusal(t, 4);
-    refusal(t, 7);
-    refusal(t, 8);
-    refusal(t, 9);
-    refusal(t, 17);
-    line(b"differed: ", t.differed);
+    line(to, "packets", PACKETS);
+    line(to, "read", t.answers[0]);
+    refusal(to, t, 1);
+    refusal(to, t, 2);
+    refusal(to, t, 3);
+    refusal(to, t, 4);
+    refusal(to, t, 7);
+    refusal(to, t, 8);
+    refusal(to, t, 9);
+    refusal(to, t, 17);
+    line(to, "differed", t.differed);
 }

@@ -9,8 +9,8 @@ fn scrambled(a: u32) -> u32 {
 
 // A number for packet n. Each draw has a number of its own, so that a draw does not depend on which others were made.
 fn mixed(n: u32, draw: u32) -> u32 {
-    let a = scrambled(std::num::wrapping_add_u32(n, 1));
-    scrambled(scrambled(scrambled(std::num::wrapping_add_u32(a, draw))))
+    let a = scrambled(n.wrapping_add(1));
+    scrambled(scrambled(scrambled(a.wrapping_add(draw))))
 }
 
 // A draw for packet n, below a limit.

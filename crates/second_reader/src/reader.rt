@@ -19,7 +19,7 @@ const REST: u32 = 6;
 
 // Where the walk stands: in which part, how many bytes of it are left, the last four bytes as one number, the words kept so far
 // (`first` has everything up to the sequence number), and how many bytes of the rest came.
-#[derive(Drop)]
+#[derive(Clone, Copy)]
 struct Walk {
     part: u32,
     left: u32,
@@ -105,7 +105,7 @@ fn passed(mut w: Walk) -> Walk {
 fn walked(mut w: Walk, b: u8) -> Walk {
     w.window = w.window % 0x100_0000 * 256 + b as u32;
     if w.part == REST {
-        w.rest = std::num::wrapping_add_u32(w.rest, 1);
+        w.rest = w.rest.wrapping_add(1);
         if w.rest == 4 {
             w.payload = w.window;
         }
@@ -162,7 +162,7 @@ fn refusal(w: Walk) -> u8 {
     if bad_padding(w) {
         return 4;
     }
-    let size = std::num::wrapping_sub_u32(w.rest, pad_count(w));
+    let size = w.rest.wrapping_sub(pad_count(w));
     if size != 4 {
         return misfit(size);
     }
@@ -193,11 +193,8 @@ fn report(w: Walk) -> Report {
 // Reads a packet.
 pub fn read(s: &[u8]) -> ReadAnswer {
     let mut w = begun();
-    let mut i = 0usize;
-    while i < s.len() {
-        let v = walked(w, s[i]);
-        w = v;
-        i += 1;
+    for b in s {
+        w = walked(w, *b);
     }
     let n = refusal(w);
     if n == 0 {

@@ -4,7 +4,7 @@ ghost use Rattle.std.specs.Prelude.{◌<◌, ◌≤◌};
 use super::random::drawn;
 
 // The bytes of a packet are the first `len` of these, 0 to 80.
-#[derive(Drop)]
+#[derive(Clone, Copy)]
 pub struct Sample {
     pub bytes: [u8; 80],
     pub len: u32,
@@ -21,11 +21,9 @@ fn with(mut b: [u8; 80], at: u32, value: u32) -> [u8; 80] {
 // 80 random bytes.
 fn noise(n: u32) -> [u8; 80] {
     let mut b = [0u8; 80];
-    let mut i = 0u32;
-    while i < 80 {
+    for i in 0..80u32 {
         let c = with(b, i, drawn(n, 100 + i, 256));
         b = c;
-        i += 1;
     }
     b
 }
