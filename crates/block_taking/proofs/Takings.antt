@@ -1,25 +1,18 @@
 -- One block heard and entered.
-use Prim.Native.Nat.{ℕ, ◌+◌, ◌-◌, ◌*◌, ◌≤◌, ◌<◌}
-use mathlib.Core.Path.{◌≡◌, refl, sym, ◌∙◌, ap}
-use mathlib.Core.Bool.{Bool, true, false, cond, ◌&&◌}
-use mathlib.Core.List.{List, [], ◌∷◌}
+use Prim.Native.Nat.{ℕ, ◌+◌, ◌-◌, ◌*◌, ◌<◌}
+use mathlib.Core.Path.{◌≡◌, refl, ◌∙◌, ap}
+use mathlib.Core.Bool.{Bool, true, false, ◌&&◌}
+use mathlib.Core.List.{List}
 use native.Mathlib.Omega.{arith}
 use borrow.Author.Rules.{rules}
-use borrow.Author.Tests.{eqb-true, ltb-false}
-use lib.Dec.{eqb, ltb}
 use lib.ListN.{length, set, take, drop}
 use Rattle.model.specs.declared.Head.{Head}
 use Rattle.model.specs.declared.Received.{Received}
 use Rattle.model.specs.declared.BlockStep.{BlockStep}
-use Rattle.model.specs.Packet.{header_refusal, after_header, payload, timestamp, marker}
 use Rattle.model.specs.Table.{table_of}
-use Rattle.model.specs.Receive.{offset, arrival_in, hear}
-use Rattle.model.specs.Walk.{payload_ends, primary_step, block_step, part_of, block_of}
-use Rattle.model.specs.Redundant.{is_plain, arrival_of, reports_in, carried_refusal, refusal_for_both, refusal_of_both, entry_of}
-use Rattle.model.specs.Fits.{BytesFit}
-use Rattle.refusals.proofs.Tests.{passed, both_none}
+use Rattle.model.specs.Receive.{offset, hear}
+use Rattle.model.specs.Redundant.{entry_of}
 use Rattle.theorems.proofs.Packets.{bytes_fit, header_passed, number32_fits}
-use Rattle.theorems.proofs.Walks.{payload_part, payload_within}
 use Rattle.receive.specs.Receives.{HearsInto}
 use Rattle.block_taking.specs.Enters.{report_at, InPlace, Ready, EntersBlock, EntersOrPasses}
 

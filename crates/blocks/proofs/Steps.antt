@@ -1,14 +1,14 @@
 -- Each way through the definition of a step and of a walk's start.
-use Prim.Native.Nat.{ℕ, ◌+◌, ◌-◌, ◌%◌, ◌≤◌, ◌<◌, min}
-use mathlib.Core.Path.{◌≡◌, refl, sym, ◌∙◌, ap}
+use Prim.Native.Nat.{ℕ, ◌+◌, ◌-◌, ◌%◌, ◌≤◌, ◌<◌}
+use mathlib.Core.Path.{◌≡◌, sym, ◌∙◌, ap}
 use mathlib.Core.Bool.{Bool, true, false, cond}
-use mathlib.Core.List.{List, [], ◌∷◌}
+use mathlib.Core.List.{List}
 use native.Mathlib.Omega.{arith}
 use borrow.Author.Rules.{rules}
-use borrow.Author.Tests.{le-leb, lt-leb, lt-ltb, ne_eqb, leb-true, leb-false}
-use lib.Dec.{eqb, leb}
-use lib.ListN.{length, drop, length-take, length-drop}
-use lib.Seq.{get_or-drop, take_all}
+use borrow.Author.Tests.{le-leb, lt-leb, lt-ltb, ne_eqb}
+use lib.Dec.{eqb}
+use lib.ListN.{length}
+use lib.Seq.{get_or-drop}
 use Rattle.model.specs.declared.Cursor.{Cursor}
 use Rattle.model.specs.declared.WalkStart.{WalkStart}
 use Rattle.model.specs.declared.BlockStep.{BlockStep}

@@ -1,6 +1,6 @@
 -- The text of a set of codes, as the parameters of `a=fmtp:` give it (02, request 6; RFC 4733, 2.4.1): "One or more items are joined by
 -- commas: a number up to 255 without leading zeros, or a-b with a below b; no spaces; repeats and overlaps are read."
-use Rattle.std.specs.Prelude.{ℕ, ◌+◌, ◌-◌, ◌*◌, ◌/◌, ◌%◌, ◌≤◌, ◌≡◌, Bool, true, false, not, cond, ◌&&◌, ◌||◌, List, [], ◌∷◌, ◌++◌, map, leb, ltb, eqb, length, get_or}
+use Rattle.std.specs.Prelude.{ℕ, ◌/◌, ◌%◌, ◌≤◌, ◌≡◌, Bool, true, false, not, cond, ◌&&◌, ◌||◌, List, [], ◌∷◌, ◌++◌, map, leb, ltb, eqb, length, get_or}
 use Rattle.decimal.specs.Decimal.{digit, are_digits, value, no_zero_ahead}
 use Rattle.model.specs.declared.Codes.{Codes}
 use Rattle.refusals.specs.Refusals.{no_codes, none, ◌if◌else◌, Told, telling}

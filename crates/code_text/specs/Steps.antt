@@ -1,5 +1,5 @@
 -- What each step of reading a text of codes finds out.
-use Rattle.std.specs.Prelude.{ℕ, suc, ◌+◌, ◌≤◌, ◌≡◌, cond, ◌&&◌, ◌||◌, List, [], ◌∷◌, eqb, leb, ltb, length, drop}
+use Rattle.std.specs.Prelude.{ℕ, suc, ◌+◌, ◌≤◌, ◌≡◌, cond, ◌&&◌, List, [], ◌∷◌, eqb, leb, length, drop}
 use Rattle.decimal.specs.Decimal.{are_digits, followed_by, value}
 use Rattle.code_text.specs.declared.Found.{Found}
 use Rattle.code_text.specs.declared.Found.TheVariants.{Range, Nothing}

@@ -13,7 +13,6 @@ use Rattle.payload.specs.declared.Payload.{Payload}
 use Rattle.payload.specs.declared.Payload.TheVariants as payload
 use Rattle.payload.specs.Stage.{payload_of, refusal_of_payload}
 use Rattle.payload.proofs.Laws.{Reported, reported_says, unreported_says}
-use Rattle.hearing.specs.declared.Hearing.{Hearing}
 use Rattle.hearing.specs.declared.Hearing.TheVariants as hearing
 use Rattle.hearing.specs.Sayings.{arrival, hearing_of}
 

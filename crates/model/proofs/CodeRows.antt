@@ -1,7 +1,7 @@
 -- Sets of codes, and what the calls do with a code that is in the set or not, on both sides of each edge, computed from the definitions.
 use Prim.Native.Nat.{ℕ, ◌+◌, ◌*◌}
 use mathlib.Core.Path.{◌≡◌, refl}
-use mathlib.Core.Bool.{Bool, true, false, ◌||◌}
+use mathlib.Core.Bool.{true, false, ◌||◌}
 use mathlib.Core.List.{List, [], ◌∷◌, map}
 use lib.Dec.{leb, eqb}
 use lib.ListN.{replicate}

@@ -12,7 +12,7 @@ use Rattle.model.specs.declared.Head.{Head}
 use Rattle.model.specs.declared.Table.{Table}
 use Rattle.model.specs.declared.BlockStep.{BlockStep}
 use Rattle.model.specs.Packet.{timestamp, marker}
-use Rattle.model.specs.Blocks.{Block, blocks}
+use Rattle.model.specs.Blocks.{Block}
 use Rattle.model.specs.Table.{table_of, holding, place, valid}
 use Rattle.model.specs.Receive.{Arrival, hear}
 use Rattle.model.specs.Walk.{block_step, block_of}

@@ -47,7 +47,7 @@ use Rattle.model.specs.Blocks.{
 use Rattle.model.specs.Fits.{BytesFit}
 use Rattle.refusals.proofs.Tests.{passed}
 use Rattle.theorems.proofs.Basics.{Mem}
-use Rattle.theorems.proofs.Packets.{byte_fits, number16_fits, number16_written, fits_parts, each, first_bytes}
+use Rattle.theorems.proofs.Packets.{byte_fits, number16_fits, number16_written, fits_parts, first_bytes}
 
 -- HEADER BY HEADER
 

@@ -16,7 +16,7 @@ use Rattle.model.specs.Packet.{bit, number16}
 use Rattle.model.specs.Table.{valid}
 use Rattle.model.specs.Receive.{packet_refusal, receive, refuses, answers, table_after}
 use Rattle.model.specs.Fits.{BytesFit}
-use Rattle.model.specs.Frames.{frame, frames, starts_whole, first_packet, after_first, packets_in, used, rest, frame_size}
+use Rattle.model.specs.Frames.{frames, starts_whole, first_packet, after_first, packets_in, used, rest, frame_size}
 use Rattle.model.specs.Capture.{
   how_many,
   takes,

@@ -17,7 +17,6 @@ use borrow.Author.Tests.{eqb-true}
 use Rattle.model.specs.declared.Report.{Report}
 use Rattle.model.specs.declared.Table.{Table}
 use Rattle.refusals.specs.Refusals.{none}
-use Rattle.model.specs.Packet.{ssrc}
 use Rattle.model.specs.Plan.{report_at}
 use Rattle.model.specs.Receive.{Arrival, arrival_in, hear, packet_refusal, refuses}
 use Rattle.model.specs.Redundant.{table_after_reports}
@@ -65,7 +64,7 @@ use Rattle.theorems.proofs.Packets.{packet_header}
 use Rattle.theorems.proofs.Receives.{read_if, heard_if}
 use Rattle.theorems.proofs.Calls.{after_receipt_lem, after_all, arrivals_all}
 use Rattle.theorems.proofs.Runs.{lists_events}
-use Rattle.theorems.proofs.Sends.{sent_bytes, sent_in_range, sent_report, sent_arrives}
+use Rattle.theorems.proofs.Sends.{sent_bytes, sent_report, sent_arrives}
 use Rattle.theorems.proofs.Arrives.{Along, along_empty, along_sent, along_refused}
 use Rattle.theorems.proofs.Brought.{Brought, final, events_after, same_events}
 use Rattle.theorems.proofs.Basics.{Mem}

@@ -6,7 +6,6 @@ use mathlib.Core.List.{List, [], ◌∷◌, map}
 use mathlib.Core.Logic.{inl, inr, ⊎_elim}
 use native.Mathlib.Omega.{arith}
 use Rattle.model.specs.declared.Table.{Table}
-use Rattle.model.specs.Plan.{reports}
 use Rattle.model.specs.Receive.{arrival_in, receive, arrivals}
 use Rattle.theorems.specs.Sizes.{as_listed, Sent, plan_of}
 use Rattle.theorems.specs.Demands.{

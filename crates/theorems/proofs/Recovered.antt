@@ -13,7 +13,6 @@ use mathlib.Core.List.{
 }
 use mathlib.Core.Logic.{◌⊎◌, inl, inr}
 use native.Mathlib.Omega.{arith}
-use lib.ListN.{length}
 use Rattle.model.specs.declared.Plan.{Plan}
 use Rattle.model.specs.declared.Segment.{Segment}
 use Rattle.model.specs.Plan.{full_segments, rest_units, next_start, cut_from}

@@ -21,7 +21,6 @@ use Rattle.model.specs.declared.Segment.{Segment}
 use Rattle.model.specs.declared.Event.{Event}
 use Rattle.model.specs.declared.Table.{Table}
 use Rattle.refusals.specs.Refusals.{none}
-use Rattle.model.specs.Packet.{payload}
 use Rattle.model.specs.Segments.{Within, Derived}
 use Rattle.model.specs.Table.{segments_from, valid, held, valid_segment, taking}
 use Rattle.model.specs.Receive.{Arrival, heard_by, hear, arrival_in, packet_refusal, receive, refuses, table_after, arrivals}
@@ -47,7 +46,7 @@ use Rattle.theorems.specs.Redundancy.{
   Demand2Redundant,
   Demand2RedundantAnyOrder,
 }
-use Rattle.theorems.proofs.Order.{rises, rises_if}
+use Rattle.theorems.proofs.Order.{rises_if}
 use Rattle.theorems.proofs.Segments.{derived_put, derived_unique, is_segments_of}
 use Rattle.theorems.proofs.Keeping.{attained_more}
 use Rattle.theorems.proofs.Grouping.{events_of_grouped}

@@ -16,7 +16,7 @@ use Rattle.model.specs.declared.Table.{Table}
 use Rattle.model.specs.Codes.{is_in}
 use Rattle.refusals.specs.Refusals.{none}
 use Rattle.model.specs.Answers.{no_report}
-use Rattle.model.specs.Packet.{report_in, payload_refusal, packet_of, report_in_range, ssrc}
+use Rattle.model.specs.Packet.{report_in, payload_refusal, packet_of, report_in_range}
 use Rattle.model.specs.Plan.{
   full_segments,
   cut_from,

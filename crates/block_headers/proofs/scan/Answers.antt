@@ -1,4 +1,3 @@
-use Prim.Native.Nat.{◌-◌}
 use Rattle.block_headers.proofs.Scanning.{too_long, all_scanned, cut_header, scanning}
 use Rattle.block_headers.proofs.scan.Goals as goal
 

@@ -1,4 +1,3 @@
-use Prim.Native.Nat.{◌-◌}
 use Rattle.capture.proofs.Laws.{one_more_frame, capturing}
 use Rattle.capture.proofs.receive_frames.Goals as goal
 

@@ -1,4 +1,3 @@
-use Prim.Native.Nat.{◌-◌}
 use Rattle.code_text.proofs.Laws.{reading_codes}
 use Rattle.code_text.proofs.read_codes.Goals as goal
 

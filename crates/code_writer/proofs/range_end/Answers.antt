@@ -1,4 +1,3 @@
-use Prim.Native.Nat.{◌-◌}
 use Rattle.code_writer.proofs.Laws.{writing_codes}
 use Rattle.code_writer.proofs.range_end.Goals as goal
 

@@ -1,4 +1,3 @@
-use Prim.Native.Nat.{◌-◌}
 use Rattle.events.proofs.Laws.{table_events}
 use Rattle.events.proofs.event_place.Goals as goal
 

@@ -1,4 +1,3 @@
-use Prim.Native.Nat.{◌-◌}
 use Rattle.lines.proofs.Laws.{line_text}
 use Rattle.lines.proofs.has_name.Goals as goal
 

@@ -1,4 +1,3 @@
-use Prim.Native.Nat.{◌-◌}
 use Rattle.lines.proofs.Laws.{line_text}
 use Rattle.lines.proofs.number_at.Goals as goal
 

@@ -1,4 +1,3 @@
-use Prim.Native.Nat.{◌-◌}
 use mathlib.Core.Path.{refl}
 use Rattle.searching.proofs.Halving.{search_up}
 use Rattle.searching.proofs.Laws.{seeking}

@@ -1,4 +1,3 @@
-use Rattle.std.proofs.Common.{◌-◌}
 use Rattle.valid.proofs.Laws.{testing}
 use Rattle.valid.proofs.each_in.Goals as goal
 

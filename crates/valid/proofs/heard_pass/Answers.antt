@@ -1,4 +1,3 @@
-use Rattle.std.proofs.Common.{◌-◌}
 use Rattle.valid.proofs.Laws.{testing}
 use Rattle.valid.proofs.heard_pass.Goals as goal
 

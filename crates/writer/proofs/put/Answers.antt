@@ -1,4 +1,3 @@
-use Prim.Native.Nat.{◌-◌}
 use Rattle.writer.proofs.Writes.{writing}
 use Rattle.writer.proofs.put.Goals as goal
 

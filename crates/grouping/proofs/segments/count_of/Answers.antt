@@ -1,5 +1,3 @@
-use Prim.Native.Nat.{◌-◌}
-use mathlib.Core.Logic.{⊎_elim}
 use Rattle.grouping.proofs.Laws.{grouping}
 use Rattle.grouping.proofs.segments.count_of.Goals as goal
 use Rattle.grouping.proofs.segments.count_of.Goals.{then-begins_at, else-begins_at}
