@@ -38,6 +38,7 @@ fn value_of(digits: &[u8]) -> u32
 }
 
 // A number up to 255 without leading zeros; 256 if the text is none.
+#[tactic(auto, using(crate::proofs::Laws::reading_codes))]
 fn number_of(text: &[u8]) -> u32
     ensures { result ≡ number_of text.now }
 {

@@ -19,6 +19,7 @@ fn wide(b: u8) -> usize
 }
 
 // Tells what stands at a place of a buffer.
+#[tactic(auto, using(crate::proofs::Laws::framing))]
 pub fn frame_at(s: &[u8], at: usize) -> Frame
     requires { at ≤ length s.now }
     ensures { result ≡ frame_at s.now at }

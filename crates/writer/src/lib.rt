@@ -131,6 +131,7 @@ pub fn put_payload(code: u32, ended: bool, volume: u32, duration: u32, at: usize
 
 // Writes a report's 16 bytes at the start of the output, or refuses with 12, also for a code outside the set, or 14, and leaves the
 // output as it is.
+#[tactic(auto, using(crate::proofs::Writes::writing))]
 pub fn write(codes: Codes, r: Report, out: &mut [u8]) -> WriteAnswer
     ensures result_value { told_write result ≡ (write codes r out.old).answer }
     ensures out_after { out.new ≡ (write codes r out.old).output }
