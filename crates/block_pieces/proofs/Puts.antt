@@ -14,11 +14,16 @@ use Rattle.model.specs.WriteRedundant.{offset_before, older_written}
 use Rattle.writer.specs.Pieces.{put_at}
 use Rattle.block_pieces.specs.Pieces.{older_put, ends_put}
 
-pub older_header_bytes : (r : Report) (o : OlderReport) (n marked top low high last : ℕ)
-    → n ≡ offset_before r o → marked ≡ bit true * 128 + r.payload_type
-    → top ≡ (n * 1024 + 4) / 65536 → low ≡ (n * 1024 + 4) % 65536 → high ≡ low / 256 % 256 → last ≡ low % 256
-    → marked ∷ top ∷ high ∷ last ∷ [] ≡ header_of (older_written r o)
-older_header_bytes r o n marked top low high last a b c d e f = rw (b, c, e, f, d, a)
+-- the lower three bytes of 24 bits, as the header's definition halves them
+module _ (x : ℕ) (fits : x < 0x100_0000) where
+  pub top_byte : x / 0x1_0000 % 256 ≡ x / 65536
+  top_byte = omega arith
+
+  pub middle_byte : x / 256 % 256 ≡ x % 65536 / 256 % 256
+  middle_byte = omega arith
+
+  pub last_byte : x % 256 ≡ x % 65536 % 256
+  last_byte = omega arith
 
 pub older_put_lem : (r : Report) (o : OlderReport) (i n : ℕ) (h before one after : List ℕ)
     → h ≡ header_of (older_written r o) → one ≡ put_at h (12 + 4 * i) before
@@ -45,4 +50,4 @@ pub length_stays : (before l after : List ℕ) (i x : ℕ) → length l ≡ leng
     → length after ≡ length before
 length_stays before l after i x a b = b ∙ length-set l i x ∙ a
 
-pub ruleset putting = (rules, older_header_bytes, older_put_lem, ends_put_lem, room_stays, length_stays)
+pub ruleset putting = (rules, older_put_lem, ends_put_lem, room_stays, length_stays)
