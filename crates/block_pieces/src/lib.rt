@@ -7,15 +7,15 @@ ghost use Rattle.model.specs.WriteRedundant.{older_written};
 ghost use Rattle.block_pieces.specs.Pieces.{OlderAsked, EndsAsked, ends_put, older_put};
 
 use model::{OlderReport, Report};
-use numbers::minus;
 use writer::{flagged, put, put_header, put_payload};
 
 // The 4 bytes of an older block's header: F set, the payload type, the offset in 14 bits, and the length 4 in 10.
+#[tactic(auto, using(crate::proofs::Puts::putting))]
 fn older_header(r: Report, o: OlderReport) -> [u8; 4]
     requires { OlderAsked r o }
     ensures { result ≡ header_of (older_written r o) }
 {
-    let x = minus(r.timestamp, o.timestamp) * 1024 + 4;
+    let x = r.timestamp.wrapping_sub(o.timestamp) * 1024 + 4;
     let [_, top, high, low] = x.to_be_bytes();
     [flagged(true, r.payload_type), top, high, low]
 }
