@@ -92,7 +92,7 @@ module _ (i : Item) (ok : is_item i ≡ true) where
           let up : i.first < i.last = omega (arith, ordered, eqb-false i.first i.last e) in
           rw (
             slice_split_at (λ b. eqb b dash) (decimal i.first) dash (decimal i.last)
-            (no_separator dash (omega arith) (decimal i.first) w.digits) refl,
+                (no_separator dash (omega arith) (decimal i.first) w.digits) refl,
             number_whole (decimal i.last) v.number,
             w.number,
             v.number,

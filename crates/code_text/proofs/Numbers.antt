@@ -1,11 +1,11 @@
 -- The number that a text is: its digits one by one, and no 0 ahead of others.
 use Prim.Native.Nat.{ℕ, ◌+◌, ◌-◌, ◌*◌, ◌<◌, ◌≤◌}
 use mathlib.Core.Path.{◌≡◌, refl, sym, ◌∙◌, ap}
-use mathlib.Core.Bool.{Bool, true, false, not, cond, ◌&&◌, ◌||◌, and-false}
+use mathlib.Core.Bool.{Bool, true, false, not, cond, ◌&&◌, and-false}
 use mathlib.Core.List.{List, ◌∷◌}
 use native.Mathlib.Numerals.{add-one}
 use native.Mathlib.Omega.{arith}
-use borrow.Author.Tests.{lt-leb, le-leb, eq-eqb, ne_eqb, leb-true, eqb-true, eqb-false}
+use borrow.Author.Tests.{lt-leb, le-leb, leb-true, eqb-true, eqb-false, not-true, not-false}
 use lib.Dec.{eqb, leb}
 use lib.ListN.{length, get_or, drop, drop_of_length-le}
 use lib.Seq.{drop-cons}
@@ -15,7 +15,7 @@ use Rattle.std.proofs.lemmas.Option.{none-some, same_Some, cond_some}
 use Rattle.refusals.proofs.Tests.{and_then}
 use Rattle.decimal.specs.declared.NumberError.{NumberError}
 use Rattle.decimal.specs.declared.NumberError.TheVariants.{NoDigit, TooLarge}
-use Rattle.decimal.specs.Decimal.{is_digit, are_digits, followed_by, value, next_number}
+use Rattle.decimal.specs.Decimal.{is_digit, are_digits, followed_by, value, no_zero_ahead, next_number}
 use Rattle.decimal.proofs.Laws.{grows, number_then, no_digit_then, too_large_then}
 use Rattle.code_text.specs.CodeText.{is_number}
 use Rattle.code_text.specs.Steps.{value_after, number_of}
@@ -25,13 +25,13 @@ use Rattle.code_text.specs.Steps.{value_after, number_of}
 pub record Numeral (bs : List ℕ) : Type 0 where
   pub some : 1 ≤ length bs
   pub digits : are_digits bs ≡ true
-  pub leads : (leb (length bs) 1 || not (eqb (get_or bs 0 0) 48)) ≡ true
+  pub leads : no_zero_ahead (get_or bs 0 0) (length bs) ≡ true
   pub small : value bs ≤ 255
 
 module _ (bs : List ℕ) where
   pub numeral : is_number bs ≡ true → Numeral bs
   numeral e =
-      let no_zero = leb (length bs) 1 || not (eqb (get_or bs 0 0) 48) in
+      let no_zero = no_zero_ahead (get_or bs 0 0) (length bs) in
       let tests = and_then (leb 1 (length bs) && are_digits bs) (no_zero && leb (value bs) 255) e in
       let first = and_then (leb 1 (length bs)) (are_digits bs) tests.0 in
       let last = and_then no_zero (leb (value bs) 255) tests.1 in
@@ -62,7 +62,7 @@ too_large_after n bs h = rw (lt-leb (followed_by n bs) 255 (omega (arith, grows 
 -- there are digits, and no 0 ahead of others
 pub record Leads (bs : List ℕ) : Type 0 where
   pub some : leb 1 (length bs) ≡ true
-  pub leads : (leb (length bs) 1 || not (eqb (get_or bs 0 0) 48)) ≡ true
+  pub leads : no_zero_ahead (get_or bs 0 0) (length bs) ≡ true
 
 -- what is left of the digits at place i decides, after the number that stands before it
 pub record Saying (bs : List ℕ) (i n : ℕ) : Type 0 where
@@ -75,34 +75,23 @@ module _ (bs : List ℕ) where
   unfolding number_of value_after
   digits_tell w = rw (w.some, w.leads)
 
-  saying_starts : Leads bs → Saying bs 0 0
-  saying_starts w = record { leads = w; small = omega arith; rest = refl }
-
   module _ (b : Bool) (e : b ≡ eqb (length bs) 0) where
     pub no_digits : b ≡ true → None ≡ number_of bs
     unfolding number_of
     no_digits h = let z : length bs ≡ 0 = eqb-true (length bs) 0 (sym e ∙ h) in rw (lt-leb 1 (length bs) (omega arith))
 
-    module _ (h : b ≡ false) where
-      some : 1 ≤ length bs
-      some = let n : length bs ≡ 0 → ⊥ = eqb-false (length bs) 0 (sym e ∙ h) in omega (arith, n)
+    module _ (h : b ≡ false) (zero : Bool) (k : zero ≡ not (no_zero_ahead (get_or bs 0 0) (length bs))) where
+      pub leading_zero : zero ≡ true → None ≡ number_of bs
+      unfolding number_of
+      leading_zero z =
+          rw (not-true (no_zero_ahead (get_or bs 0 0) (length bs)) (sym k ∙ z), and-false (leb 1 (length bs) && are_digits bs))
 
-      pub one_digit : length bs ≤ 1 → Saying bs 0 0
-      one_digit k =
-          saying_starts (record { some = le-leb 1 (length bs) some; leads = let z = le-leb (length bs) 1 k in rw z })
-
-      module _ (more : 1 < length bs) where
-        pub leading_zero : get_or bs 0 0 ≡ 48 → None ≡ number_of bs
-        unfolding number_of
-        leading_zero z =
-            rw (lt-leb (length bs) 1 more, eq-eqb (get_or bs 0 0) 48 z, and-false (leb 1 (length bs) && are_digits bs))
-
-        pub no_leading_zero : (get_or bs 0 0 ≡ 48 → ⊥) → Saying bs 0 0
-        no_leading_zero n =
-            saying_starts (record {
-              some = le-leb 1 (length bs) some;
-              leads = rw (lt-leb (length bs) 1 more, ne_eqb (get_or bs 0 0) 48 n);
-            })
+      pub saying_starts : zero ≡ false → Saying bs 0 0
+      saying_starts z =
+          let n : length bs ≡ 0 → ⊥ = eqb-false (length bs) 0 (sym e ∙ h) in
+          let some = le-leb 1 (length bs) (omega (arith, n)) in
+          let leads = not-false (no_zero_ahead (get_or bs 0 0) (length bs)) (sym k ∙ z) in
+          record { leads = record { some = some; leads = leads }; small = omega arith; rest = refl }
 
   module _ (i n : ℕ) (w : Saying bs i n) where
     pub all_said : length bs ≤ i → Some n ≡ number_of bs
