@@ -13,7 +13,7 @@ use Rattle.model.specs.declared.Codes.{Codes}
 use Rattle.model.specs.Codes.{is_in, word, set_of}
 use Rattle.theorems.proofs.Bits.{same_word}
 use Rattle.theorems.proofs.Sets.{set_of_its_codes}
-use Rattle.code_ranges.specs.Ranges.{below, with_range}
+use Rattle.code_ranges.specs.Ranges.{with_range}
 
 -- THE CODES BELOW A NUMBER
 
@@ -51,15 +51,6 @@ module _ (n from : ℕ) where
     some_below =
         let z : min (n - from) 64 ≡ n - from = omega arith in
         rw shifted (omega (arith, ones_below n 64 from, ap (λ (x : ℕ). 2 ^ x) z))
-
-pub below_set : (n w₀ w₁ w₂ w₃ : ℕ)
-    → w₀ ≡ word (λ c. ltb c n) 0 64
-    → w₁ ≡ word (λ c. ltb c n) 64 64
-    → w₂ ≡ word (λ c. ltb c n) 128 64
-    → w₃ ≡ word (λ c. ltb c n) 192 64
-    → record { from_0 = w₀; from_64 = w₁; from_128 = w₂; from_192 = w₃ } ≡ below n
-unfolding below
-below_set n w₀ w₁ w₂ w₃ e₀ e₁ e₂ e₃ i = record { from_0 = e₀ i; from_64 = e₁ i; from_128 = e₂ i; from_192 = e₃ i }
 
 -- WORDS JOINED BIT BY BIT
 
@@ -117,9 +108,9 @@ differing_word = joined bit_xor differ differing (xor_zero_l 0) xor_step bit
     bit false true = refl
     bit false false = refl
 
--- THE SET WITH A RANGE
+-- THE CODES OF A RANGE
 
-module _ (s : Codes) (first last : ℕ) (order : first ≤ last) where
+module _ (first last : ℕ) (order : first ≤ last) where
   between : (c : ℕ) → differing (ltb c (last + 1)) (ltb c first) ≡ (leb first c && leb c last)
   between c = go (ltb c (last + 1)) refl (ltb c first) refl
     where
@@ -131,40 +122,41 @@ module _ (s : Codes) (first last : ℕ) (order : first ≤ last) where
           let past : last < c = omega (arith, ltb-false c (last + 1) p) in
           rw (le-leb first c (ltb-false c first q), lt-leb c last past)
 
-  with_word : (c : ℕ) → bit_or (word (is_in s) c 64) (bit_xor (word (λ x. ltb x (last + 1)) c 64) (word (λ x. ltb x first) c 64))
-      ≡ word (λ x. is_in s x || (leb first x && leb x last)) c 64
-  with_word c =
-      ap (bit_or (word (is_in s) c 64)) (
-      differing_word (λ x. ltb x (last + 1)) (λ x. ltb x first) 64 c
-      ∙ same_word (λ x. differing (ltb x (last + 1)) (ltb x first)) (λ x. leb first x && leb x last) 64 c (λ k l h. between k)
-      )
-      ∙ either_word (is_in s) (λ x. leb first x && leb x last) 64 c
+  pub range_word : (from upper lower : ℕ) → upper ≡ word (λ c. ltb c (last + 1)) from 64 → lower ≡ word (λ c. ltb c first) from 64
+      → bit_xor upper lower ≡ word (λ c. leb first c && leb c last) from 64
+  range_word from upper lower e f =
+      ap₂ bit_xor e f
+      ∙ differing_word (λ x. ltb x (last + 1)) (λ x. ltb x first) 64 from
+      ∙ same_word (λ x. differing (ltb x (last + 1)) (ltb x first)) (λ x. leb first x && leb x last) 64 from (λ k l h. between k)
 
-  module _ (lower : Codes) (is_lower : lower ≡ below first) (upper : Codes) (is_upper : upper ≡ below (last + 1))
-      (h₀ : s.from_0 < 2 ^ 64) (h₁ : s.from_64 < 2 ^ 64) (h₂ : s.from_128 < 2 ^ 64) (h₃ : s.from_192 < 2 ^ 64) where
-    own : set_of (is_in s) ≡ s
-    own = set_of_its_codes s (record { from_0 = h₀; from_64 = h₁; from_128 = h₂; from_192 = h₃ })
+-- THE SET WITH A RANGE
 
-    at_word : (w : Codes → ℕ) (c : ℕ) → ((f : ℕ → Bool) → w (set_of f) ≡ word f c 64)
-        → bit_or (w s) (bit_xor (w upper) (w lower)) ≡ word (λ x. is_in s x || (leb first x && leb x last)) c 64
-    unfolding below
-    at_word w c is =
-        let up : w upper ≡ word (λ x. ltb x (last + 1)) c 64 = ap w is_upper ∙ is (λ x. ltb x (last + 1)) in
-        let low : w lower ≡ word (λ x. ltb x first) c 64 = ap w is_lower ∙ is (λ x. ltb x first) in
-        ap₂ bit_or (ap w (sym own) ∙ is (is_in s)) (ap₂ bit_xor up low) ∙ with_word c
+module _ (s : Codes) (first last : ℕ) (h₀ : s.from_0 < 2 ^ 64) (h₁ : s.from_64 < 2 ^ 64) (h₂ : s.from_128 < 2 ^ 64) (h₃ : s.from_192 < 2 ^ 64) where
+  own : set_of (is_in s) ≡ s
+  own = set_of_its_codes s (record { from_0 = h₀; from_64 = h₁; from_128 = h₂; from_192 = h₃ })
 
-    pub range_joined : record {
-      from_0 = bit_or s.from_0 (bit_xor upper.from_0 lower.from_0);
-      from_64 = bit_or s.from_64 (bit_xor upper.from_64 lower.from_64);
-      from_128 = bit_or s.from_128 (bit_xor upper.from_128 lower.from_128);
-      from_192 = bit_or s.from_192 (bit_xor upper.from_192 lower.from_192);
-    } ≡ with_range s first last
-    unfolding with_range
-    range_joined i = record {
-      from_0 = at_word (λ x. x.from_0) 0 (λ f. refl) i;
-      from_64 = at_word (λ x. x.from_64) 64 (λ f. refl) i;
-      from_128 = at_word (λ x. x.from_128) 128 (λ f. refl) i;
-      from_192 = at_word (λ x. x.from_192) 192 (λ f. refl) i;
-    }
+  at_word : (w : Codes → ℕ) (c r : ℕ) → ((f : ℕ → Bool) → w (set_of f) ≡ word f c 64) → r ≡ word (λ x. leb first x && leb x last) c 64
+      → bit_or (w s) r ≡ word (λ x. is_in s x || (leb first x && leb x last)) c 64
+  at_word w c r is e =
+      ap₂ bit_or (ap w (sym own) ∙ is (is_in s)) e ∙ either_word (is_in s) (λ x. leb first x && leb x last) 64 c
 
-pub ruleset ranging_codes = (rules, none_below, all_below, shifted_some, some_below, below_set, range_joined)
+  pub range_joined : (r₀ r₁ r₂ r₃ : ℕ)
+      → r₀ ≡ word (λ c. leb first c && leb c last) 0 64
+      → r₁ ≡ word (λ c. leb first c && leb c last) 64 64
+      → r₂ ≡ word (λ c. leb first c && leb c last) 128 64
+      → r₃ ≡ word (λ c. leb first c && leb c last) 192 64
+      → record {
+        from_0 = bit_or s.from_0 r₀;
+        from_64 = bit_or s.from_64 r₁;
+        from_128 = bit_or s.from_128 r₂;
+        from_192 = bit_or s.from_192 r₃;
+      } ≡ with_range s first last
+  unfolding with_range
+  range_joined r₀ r₁ r₂ r₃ e₀ e₁ e₂ e₃ i = record {
+    from_0 = at_word (λ x. x.from_0) 0 r₀ (λ f. refl) e₀ i;
+    from_64 = at_word (λ x. x.from_64) 64 r₁ (λ f. refl) e₁ i;
+    from_128 = at_word (λ x. x.from_128) 128 r₂ (λ f. refl) e₂ i;
+    from_192 = at_word (λ x. x.from_192) 192 r₃ (λ f. refl) e₃ i;
+  }
+
+pub ruleset ranging_codes = (rules, none_below, all_below, shifted_some, some_below, range_word, range_joined)

@@ -1,11 +1,20 @@
 // A set of event codes with the codes of a range besides.
-#![tactic(auto)]
+#![tactic(auto, using(crate::proofs::Laws::ranging_codes))]
 
-ghost use Rattle.std.specs.Prelude.{◌≡◌, ◌≤◌, ltb};
+ghost use Rattle.std.specs.Prelude.{◌≡◌, ◌≤◌, ◌&&◌, leb, ltb};
 ghost use Rattle.model.specs.Codes.{word};
-ghost use Rattle.code_ranges.specs.Ranges.{below, with_range};
+ghost use Rattle.code_ranges.specs.Ranges.{with_range};
 
 use model::Codes;
+
+// The codes from the first up to the last, which for a single code are one.
+#[derive(Clone, Copy)]
+pub struct Range {
+    pub first: u32,
+    pub last: u32,
+    pub ghost in_order: { first ≤ last },
+    pub ghost small: { last ≤ 255 },
+}
 
 // The codes below n, of the 64 that one word tells of.
 fn word_below(n: u32, from: u32) -> u64
@@ -13,37 +22,30 @@ fn word_below(n: u32, from: u32) -> u64
     ensures { result ≡ word (λ c. ltb c n) from 64 }
 {
     if n <= from {
-        return 0;
-    }
-    if from + 64 <= n {
-        return 0xffff_ffff_ffff_ffff;
-    }
-    (1 << (n - from)) - 1
-}
-
-// The set of the codes below n.
-fn set_below(n: u32) -> Codes
-    ensures { result ≡ below n }
-{
-    Codes {
-        from_0: word_below(n, 0),
-        from_64: word_below(n, 64),
-        from_128: word_below(n, 128),
-        from_192: word_below(n, 192),
+        0
+    } else if from + 64 <= n {
+        u64::MAX
+    } else {
+        (1 << (n - from)) - 1
     }
 }
 
-// The set with the codes from the first up to the last besides: those below the end of the range, but for those below its first.
-pub fn with_range(codes: Codes, first: u32, last: u32) -> Codes
-    requires { (first ≤ last) × (last ≤ 255) }
-    ensures { result ≡ with_range codes first last }
+// The codes of a range, of the 64 that one word tells of: those below its end, but for those below its first.
+fn word_of(range: Range, from: u32) -> u64
+    requires { from ≤ 192 }
+    ensures { result ≡ word (λ c. leb range.first c && leb c range.last) from 64 }
 {
-    let lower = set_below(first);
-    let upper = set_below(last + 1);
+    word_below(range.last + 1, from) ^ word_below(range.first, from)
+}
+
+// The set with the codes of a range besides.
+pub fn with_range(codes: Codes, range: Range) -> Codes
+    ensures { result ≡ with_range codes range.first range.last }
+{
     Codes {
-        from_0: codes.from_0 | (upper.from_0 ^ lower.from_0),
-        from_64: codes.from_64 | (upper.from_64 ^ lower.from_64),
-        from_128: codes.from_128 | (upper.from_128 ^ lower.from_128),
-        from_192: codes.from_192 | (upper.from_192 ^ lower.from_192),
+        from_0: codes.from_0 | word_of(range, 0),
+        from_64: codes.from_64 | word_of(range, 64),
+        from_128: codes.from_128 | word_of(range, 128),
+        from_192: codes.from_192 | word_of(range, 192),
     }
 }

@@ -8,6 +8,9 @@ use native.Mathlib.Omega.{arith}
 use borrow.Author.Tests.{eq-eqb, ne_eqb, leb-true, eqb-true, eqb-false}
 use lib.Dec.{eqb, leb}
 use lib.ListN.{length}
+use Rattle.std.specs.List.{join_with_byte}
+use Rattle.std.proofs.lemmas.List.Elements.{All-cons, All-append}
+use Rattle.std.proofs.lemmas.List.Splits.{slice_split_at, join_with_byte-slice_split}
 use Rattle.model.specs.declared.Codes.{Codes}
 use Rattle.model.specs.Codes.{empty_set, set_of}
 use Rattle.refusals.specs.Refusals.{Told, answered, refused_by}
@@ -36,11 +39,10 @@ use Rattle.code_text.specs.CodeText.{
   read_codes,
 }
 use Rattle.code_text.proofs.Decimals.{decimal_read, number_written}
-use Rattle.code_text.proofs.Joins.{Free, free_cons, free_append, split_joined, others, whole, joined_again}
 use Rattle.code_text.proofs.Numbers.{numeral}
 use Rattle.code_text.proofs.Pieces.{no_separator, number_whole, below, rises_if, good_is_item}
 use Rattle.code_text.proofs.Reading.{read_if_good, refused_if_not}
-use Rattle.code_text.proofs.Splits.{one_piece, from_start}
+use Rattle.code_text.proofs.Splits.{Free, one_piece, some_pieces}
 
 -- WRITTEN, AND READ
 
@@ -61,14 +63,17 @@ module _ (i : Item) (ok : is_item i ≡ true) where
   item_free : Free comma (item_text i)
   item_free = go (eqb i.first i.last)
     where
+      free : ℕ → Type 0
+      free b = eqb b comma ≡ false
+
       digits : (n : ℕ) → n ≤ 255 → Free comma (decimal n)
       digits n h = no_separator comma (omega arith) (decimal n) (decimal_read n h).digits
 
       go : (b : Bool) → Free comma (cond b (decimal i.first) (decimal i.first ++ (dash ∷ decimal i.last)))
       go true = digits i.first (omega (arith, ordered, small))
       go false =
-          free_append comma (decimal i.first) (dash ∷ decimal i.last) (digits i.first (omega (arith, ordered, small)))
-          (free_cons comma dash (decimal i.last) (λ e. omega (arith, e)) (digits i.last small))
+          All-append free (decimal i.first) (dash ∷ decimal i.last) (digits i.first (omega (arith, ordered, small)))
+          (All-cons free dash (decimal i.last) refl (digits i.last small))
 
   item_read : read (item_text i) ≡ as_piece i
   unfolding piece_of
@@ -86,7 +91,8 @@ module _ (i : Item) (ok : is_item i ≡ true) where
           let v = decimal_read i.last small in
           let up : i.first < i.last = omega (arith, ordered, eqb-false i.first i.last e) in
           rw (
-            split_joined dash (decimal i.first) (decimal i.last) (no_separator dash (omega arith) (decimal i.first) w.digits),
+            slice_split_at (λ b. eqb b dash) (decimal i.first) dash (decimal i.last)
+                (no_separator dash (omega arith) (decimal i.first) w.digits) refl,
             number_whole (decimal i.last) v.number,
             w.number,
             v.number,
@@ -102,7 +108,7 @@ pieces_read i [] h k =
     rw (append-nil (item_text i), one_piece comma (item_text i) (item_free i h), item_read i h)
 pieces_read i (j ∷ js) h k =
     let tests = and_then (is_item j) (are_items js) k in
-    rw (split_joined comma (item_text i) (item_text j ++ others_text js) (item_free i h), item_read i h)
+    rw (slice_split_at (λ b. eqb b comma) (item_text i) comma (item_text j ++ others_text js) (item_free i h) refl, item_read i h)
     (ap (λ (l : List Piece). as_piece i ∷ l) (pieces_read j js tests.0 tests.1))
 
 all_good_lem : (is : List Item) → all_good (map as_piece is) ≡ true
@@ -129,35 +135,31 @@ given_is_read text s g = go g.items g.one_or_more g.each g.written g.union
 
 -- READ, AND WRITTEN
 
-piece_written : (ps : List (List ℕ)) → (piece_of ps).good ≡ true → whole dash ps ≡ item_text (piece_of ps).item
+piece_written : (ps : List (List ℕ)) → (piece_of ps).good ≡ true → join_with_byte dash ps ≡ item_text (piece_of ps).item
 unfolding piece_of
 piece_written [] e = absurd (false≢true e)
-piece_written (x ∷ []) e = rw (eq-eqb (value x) (value x) refl, append-nil x) (number_written x (numeral x e))
+piece_written (x ∷ []) e = rw (eq-eqb (value x) (value x) refl) (number_written x (numeral x e))
 piece_written (x ∷ y ∷ []) e =
     let tests = and_then (is_number x) (is_number y && rises (value x) (value y)) e in
     let later = and_then (is_number y) (rises (value x) (value y)) tests.1 in
     let differ : value x ≡ value y → ⊥ = λ z. omega (arith, z, below (value x) (value y) later.1) in
-    rw (ne_eqb (value x) (value y) differ, append-nil y)
+    rw (ne_eqb (value x) (value y) differ)
     (ap₂ (λ (u v : List ℕ). u ++ (dash ∷ v)) (number_written x (numeral x tests.0)) (number_written y (numeral y later.0)))
 piece_written (x ∷ y ∷ z ∷ more) e = absurd (false≢true e)
 
 -- a piece that is read as an item is written as that item
 item_written : (p : List ℕ) → (read p).good ≡ true → p ≡ item_text (read p).item
-item_written p e = sym (joined_again dash p) ∙ piece_written (split dash p) e
+item_written p e = sym (join_with_byte-slice_split dash p) ∙ piece_written (split dash p) e
 
-others_written : (ps : List (List ℕ)) → all_good (map read ps) ≡ true → others comma ps ≡ others_text (items_of (map read ps))
-unfolding all_good items_of others_text
-others_written [] e = refl
-others_written (p ∷ ps) e =
-    let tests = and_then (read p).good (all_good (map read ps)) e in
-    ap₂ (λ (x l : List ℕ). comma ∷ (x ++ l)) (item_written p tests.0) (others_written ps tests.1)
-
-whole_written : (ps : List (List ℕ)) → all_good (map read ps) ≡ true → whole comma ps ≡ text_of (items_of (map read ps))
-unfolding all_good items_of text_of
-whole_written [] e = refl
-whole_written (p ∷ ps) e =
-    let tests = and_then (read p).good (all_good (map read ps)) e in
-    ap₂ (λ (x l : List ℕ). x ++ l) (item_written p tests.0) (others_written ps tests.1)
+all_written : (ps : List (List ℕ)) → all_good (map read ps) ≡ true → join_with_byte comma ps ≡ text_of (items_of (map read ps))
+unfolding all_good items_of others_text text_of
+all_written [] e = refl
+all_written (p ∷ []) e =
+    let tests = and_then (read p).good true e in
+    item_written p tests.0 ∙ sym (append-nil (item_text (read p).item))
+all_written (p ∷ q ∷ ps) e =
+    let tests = and_then (read p).good (all_good (map read (q ∷ ps))) e in
+    ap₂ (λ (x l : List ℕ). x ++ (comma ∷ l)) (item_written p tests.0) (all_written (q ∷ ps) tests.1)
 
 items_read : (ps : List (List ℕ)) → all_good (map read ps) ≡ true → are_items (items_of (map read ps)) ≡ true
 unfolding all_good items_of are_items
@@ -170,9 +172,9 @@ good_is_given : (text : List ℕ) → all_good (pieces text) ≡ true → Gives 
 unfolding items_of
 good_is_given text e = record {
   items = items_of (pieces text);
-  one_or_more = rw (from_start comma text) (omega arith);
+  one_or_more = rw (some_pieces comma text).2 (omega arith);
   each = items_read (split comma text) e;
-  written = sym (joined_again comma text) ∙ whole_written (split comma text) e;
+  written = sym (join_with_byte-slice_split comma text) ∙ all_written (split comma text) e;
   union = refl;
 }
 

@@ -1,6 +1,5 @@
 pub mod Decimals
 pub mod Grammar
-pub mod Joins
 pub mod Laws
 pub mod Numbers
 pub mod Pieces

@@ -1,30 +1,33 @@
 -- What stands between two commas: each way through what it is found to be.
 use Prim.Native.Nat.{ℕ, ◌+◌, ◌-◌, ◌<◌, ◌≤◌}
-use mathlib.Core.Path.{◌≡◌, refl, sym, ◌∙◌, ap}
+use mathlib.Core.Path.{◌≡◌, refl, sym, ◌∙◌}
 use mathlib.Core.Bool.{Bool, true, false, cond, ◌&&◌, and-false, false≢true}
 use mathlib.Core.List.{List, [], ◌∷◌}
 use native.Mathlib.Omega.{arith}
-use borrow.Author.Tests.{le-leb, lt-leb, lt-ltb, le-ltb, ne_eqb, leb-true, ltb-true, ltb-false}
-use lib.Dec.{leb, ltb}
+use borrow.Author.Tests.{le-leb, lt-ltb, le-ltb, ne_eqb, leb-true, ltb-true, ltb-false}
+use lib.Dec.{eqb, leb, ltb}
 use lib.ListN.{length, take, drop, length-drop}
 use lib.Seq.{take_all}
+use Rattle.std.specs.Prelude.{Option, Some, None}
+use Rattle.std.specs.List.{position}
+use Rattle.std.proofs.lemmas.List.Elements.{All-nil, All-cons}
+use Rattle.std.proofs.lemmas.Option.{none-some, cond_some}
 use Rattle.refusals.proofs.Tests.{and_then, and_both}
-use Rattle.code_text.specs.declared.Found.TheVariants.{Range, Nothing}
 use Rattle.decimal.specs.Decimal.{is_digit, are_digits, value}
-use Rattle.code_text.specs.CodeText.{is_item, is_number, dash, split, rises, Piece, piece_of}
-use Rattle.code_text.specs.Steps.{length_up_to, Ends, number_of, told, found_in}
+use Rattle.code_text.specs.CodeText.{is_item, is_number, dash, split, rises, piece_of}
+use Rattle.code_text.specs.Steps.{number_of, told, item_in}
 use Rattle.code_text.proofs.Numbers.{numeral, no_number, is_number_lem}
-use Rattle.code_text.proofs.Splits.{one_piece, left, from_start}
+use Rattle.code_text.proofs.Splits.{Free, length_up_to, one_piece, free_if, first_piece, some_pieces}
 
 -- NO SEPARATOR IS A DIGIT
 
-pub no_separator : (separator : ℕ) → separator < 48 → (bs : List ℕ) → are_digits bs ≡ true → length bs ≤ length_up_to separator bs
-unfolding are_digits length_up_to
-no_separator separator h [] e = omega arith
+pub no_separator : (separator : ℕ) → separator < 48 → (bs : List ℕ) → are_digits bs ≡ true → Free separator bs
+unfolding are_digits
+no_separator separator h [] e = All-nil (λ b. eqb b separator ≡ false)
 no_separator separator h (b ∷ bs) e =
     let tests = and_then (is_digit b) (are_digits bs) e in
     let low : 48 ≤ b = leb-true 48 b (and_then (leb 48 b) (leb b 57) tests.0).0 in
-    rw (ne_eqb b separator (λ z. omega (arith, z))) (omega (arith, no_separator separator h bs tests.1))
+    All-cons (λ b. eqb b separator ≡ false) b bs (ne_eqb b separator (λ z. omega (arith, z))) (no_separator separator h bs tests.1)
 
 pub number_whole : (bs : List ℕ) → is_number bs ≡ true → split dash bs ≡ bs ∷ []
 number_whole bs e = one_piece dash bs (no_separator dash (omega arith) bs (numeral bs e).digits)
@@ -41,99 +44,88 @@ module _ (a b : ℕ) where
   falls_if : b ≤ a → rises a b ≡ false
   falls_if = le-ltb a b
 
-bad_first : (x : List ℕ) (rest : List (List ℕ)) → is_number x ≡ false → told (piece_of (x ∷ rest)) ≡ Nothing
+bad_first : (x : List ℕ) (rest : List (List ℕ)) → is_number x ≡ false → None ≡ told (piece_of (x ∷ rest))
 unfolding piece_of
 bad_first x [] e = rw e
 bad_first x (y ∷ []) e = rw e
 bad_first x (y ∷ z ∷ more) e = refl
 
 -- a second dash stands in what is no number
-bad_second : (x y : List ℕ) → is_number y ≡ false → told (piece_of (x ∷ split dash y)) ≡ Nothing
+bad_second : (x y : List ℕ) → is_number y ≡ false → None ≡ told (piece_of (x ∷ split dash y))
 unfolding piece_of
 bad_second x y e = go (ltb (length_up_to dash y) (length y)) refl
   where
-    rest : List ℕ
-    rest = drop (length_up_to dash y + 1) y
-
-    go : (b : Bool) → ltb (length_up_to dash y) (length y) ≡ b → told (piece_of (x ∷ split dash y)) ≡ Nothing
+    go : (b : Bool) → ltb (length_up_to dash y) (length y) ≡ b → None ≡ told (piece_of (x ∷ split dash y))
     go true h =
-        let more : length_up_to dash y + 1 ≤ length y = omega (arith, ltb-true (length_up_to dash y) (length y) h) in
-        rw (from_start dash y, le-leb (length_up_to dash y + 1) (length y) more, from_start dash rest)
-    go false h = rw (one_piece dash y (ltb-false (length_up_to dash y) (length y) h), e, and-false (is_number x))
+        let cut = first_piece dash y (ltb-true (length_up_to dash y) (length y) h) in
+        rw (cut, (some_pieces dash (drop (length_up_to dash y + 1) y)).2)
+    go false h = rw (one_piece dash y (free_if dash y (ltb-false (length_up_to dash y) (length y) h)), e, and-false (is_number x))
 
--- mid is the place of its first dash; a number past 255, or any limit above it, is none
-module _ (bs : List ℕ) (mid : ℕ) (w : Ends 45 bs 0 mid) (first : ℕ) (f : first ≡ number_of (take (mid - 0) (drop 0 bs))) where
-  cut : split dash bs ≡ take mid bs ∷ left dash bs (mid + 1)
-  cut = let z : mid ≡ length_up_to dash bs = omega (arith, w.is) in rw z (from_start dash bs)
+module _ (bs : List ℕ) (r : Option ℕ) (at : r ≡ position (λ b. eqb b dash) bs) where
+  module _ (none : r ≡ None) where
+    whole : split dash bs ≡ bs ∷ []
+    whole = go (ltb (length_up_to dash bs) (length bs)) refl (sym at ∙ none)
+      where
+        go : (b : Bool) → ltb (length_up_to dash bs) (length bs) ≡ b → cond b (Some (length_up_to dash bs)) None ≡ None → split dash bs ≡ bs ∷ []
+        go true h e = absurd (none-some (length_up_to dash bs) (sym e))
+        go false h e = one_piece dash bs (free_if dash bs (ltb-false (length_up_to dash bs) (length bs) h))
 
-  before : first ≡ number_of (take mid bs)
-  before = let z : mid - 0 ≡ mid = omega arith in f ∙ rw z
+    pub no_number_alone : None ≡ number_of bs → None ≡ item_in bs
+    unfolding item_in
+    no_number_alone e = rw whole (bad_first bs [] (no_number bs e))
 
-  pub no_first_number : (limit : ℕ) → limit < first → 255 ≤ limit → Nothing ≡ found_in bs
-  unfolding found_in
-  no_first_number limit h l =
-      sym (rw cut (bad_first (take mid bs) (left dash bs (mid + 1)) (no_number (take mid bs) (omega (arith, before)))))
+    pub one_number : (n : ℕ) → Some n ≡ number_of bs → Some (record { first = n; last = n }) ≡ item_in bs
+    unfolding item_in piece_of
+    one_number n e = let p = is_number_lem bs n e in rw (whole, p.0, p.1)
 
-  module _ (small : first ≤ 255) where
-    number : is_number (take mid bs) ≡ true
-    number = (is_number_lem (take mid bs) (rw before at small)).0
+  module _ (mid : ℕ) (some : r ≡ Some mid) where
+    there : (length_up_to dash bs < length bs) × (length_up_to dash bs ≡ mid)
+    there =
+        let p = cond_some (ltb (length_up_to dash bs) (length bs)) (length_up_to dash bs) mid (sym at ∙ some) in
+        (ltb-true (length_up_to dash bs) (length bs) p.0, p.1)
 
-    says : first ≡ value (take mid bs)
-    says = before ∙ (is_number_lem (take mid bs) (rw before at small)).1
+    x : List ℕ
+    x = take mid bs
 
-    pub one_number : mid ≡ length bs → Range first first ≡ found_in bs
-    unfolding found_in piece_of
-    one_number e = sym (rw (cut, lt-leb (mid + 1) (length bs) (omega arith), number, ← says))
+    y : List ℕ
+    y = take (length bs - (mid + 1)) (drop (mid + 1) bs)
 
-    module _ (more : mid ≡ length bs → ⊥) (last : ℕ) (l : last ≡ number_of (take (length bs - (mid + 1)) (drop (mid + 1) bs))) where
-      rest : take (length bs - (mid + 1)) (drop (mid + 1) bs) ≡ drop (mid + 1) bs
-      rest = take_all (length bs - (mid + 1)) (drop (mid + 1) bs) (omega (arith, length-drop (mid + 1) bs))
+    cut : split dash bs ≡ x ∷ split dash y
+    unfolding x y
+    cut =
+        let all = take_all (length bs - (mid + 1)) (drop (mid + 1) bs) (omega (arith, length-drop (mid + 1) bs)) in
+        rw (all, ← there.1) (first_piece dash bs there.0)
 
-      after : last ≡ number_of (drop (mid + 1) bs)
-      after = l ∙ ap number_of rest
+    pub no_first_number : None ≡ number_of (take mid bs) → None ≡ item_in bs
+    unfolding item_in x
+    no_first_number e = rw cut (bad_first x (split dash y) (no_number x e))
 
-      cut_again : split dash bs ≡ take mid bs ∷ split dash (drop (mid + 1) bs)
-      cut_again = cut ∙ rw (le-leb (mid + 1) (length bs) (omega (arith, w.within)))
+    pub no_last_number : None ≡ number_of (take (length bs - (mid + 1)) (drop (mid + 1) bs)) → None ≡ item_in bs
+    unfolding item_in y
+    no_last_number e = rw cut (bad_second x y (no_number y e))
 
-      pub no_last_number : (limit : ℕ) → limit < last → 255 ≤ limit → Nothing ≡ found_in bs
-      unfolding found_in
-      no_last_number limit h k =
-          sym (rw cut_again (bad_second (take mid bs) (drop (mid + 1) bs) (no_number (drop (mid + 1) bs) (omega (arith, after)))))
+    module _ (first : ℕ) (f : Some first ≡ number_of (take mid bs))
+        (last : ℕ) (l : Some last ≡ number_of (take (length bs - (mid + 1)) (drop (mid + 1) bs))) where
+      read : (is_number x ≡ true) × (first ≡ value x) × (is_number y ≡ true) × (last ≡ value y)
+      unfolding x y
+      read =
+          let p = is_number_lem x first f in
+          let q = is_number_lem y last l in
+          (p.0, p.1, q.0, q.1)
 
-      module _ (small' : last ≤ 255) where
-        number' : is_number (drop (mid + 1) bs) ≡ true
-        number' = (is_number_lem (drop (mid + 1) bs) (rw after at small')).0
+      pub rising : first < last → Some (record { first = first; last = last }) ≡ item_in bs
+      unfolding item_in piece_of
+      rising h =
+          let t = read in
+          rw (cut, number_whole y t.2, t.0, t.2, ← t.1, ← t.3, rises_if first last h)
 
-        says' : last ≡ value (drop (mid + 1) bs)
-        says' = after ∙ (is_number_lem (drop (mid + 1) bs) (rw after at small')).1
-
-        pub rising : first < last → Range first last ≡ found_in bs
-        unfolding found_in piece_of
-        rising h =
-            sym (rw (cut_again, number_whole (drop (mid + 1) bs) number', number, number', ← says, ← says', rises_if first last h))
-
-        pub not_rising : last ≤ first → Nothing ≡ found_in bs
-        unfolding found_in piece_of
-        not_rising h =
-            sym (rw (cut_again, number_whole (drop (mid + 1) bs) number', number, number', ← says, ← says', falls_if first last h))
+      pub not_rising : last ≤ first → None ≡ item_in bs
+      unfolding item_in piece_of
+      not_rising h =
+          let t = read in
+          rw (cut, number_whole y t.2, t.0, t.2, ← t.1, ← t.3, falls_if first last h)
 
 -- WHAT A PIECE SAYS
-
-module _ (p : Piece) where
-  pub found_nothing : told p ≡ Nothing → p.good ≡ false
-  found_nothing = go p.good
-    where
-      go : (b : Bool) → cond b (Range p.item.first p.item.last) Nothing ≡ Nothing → b ≡ false
-      go true e = absurd (let z : ◌≡◌ {A = ℕ} 0 1 = cc in omega (arith, z))
-      go false e = refl
-
-  pub found_range : (first last : ℕ) → told p ≡ Range first last → (p.good ≡ true) × (p.item.first ≡ first) × (p.item.last ≡ last)
-  found_range first last = go p.good
-    where
-      go : (b : Bool) → cond b (Range p.item.first p.item.last) Nothing ≡ Range first last
-          → (b ≡ true) × (p.item.first ≡ first) × (p.item.last ≡ last)
-      go true e = (refl, cc, cc)
-      go false e = absurd (let z : ◌≡◌ {A = ℕ} 0 1 = cc in omega (arith, z))
 
 pub good_is_item : (ps : List (List ℕ)) → (piece_of ps).good ≡ true → is_item (piece_of ps).item ≡ true
 unfolding piece_of

@@ -6,7 +6,7 @@ use Rattle.model.specs.declared.Codes.{Codes}
 use Rattle.model.specs.Codes.{empty_set, word}
 use Rattle.refusals.specs.Refusals.{answered, refused_by}
 use Rattle.decimal.specs.Decimal.{are_digits, followed_by}
-use Rattle.code_text.specs.CodeText.{covered, joined_to, split, piece_of, all_good, items_of, read_codes}
+use Rattle.code_text.specs.CodeText.{covered, piece_of, all_good, items_of, read_codes}
 
 -- a set by its words
 abbrev codes : ℕ → ℕ → ℕ → ℕ → Codes
@@ -26,7 +26,7 @@ texts =
     ∷ []
 
 pub read_rows : map (λ r. read_codes r.0) texts ≡ map (λ r. answered r.1) texts
-unfolding read_codes covered joined_to split are_digits followed_by piece_of all_good items_of word
+unfolding read_codes covered are_digits followed_by piece_of all_good items_of word
 read_rows = refl
 
 abbrev others : List (List ℕ)
@@ -52,5 +52,5 @@ others =
     ∷ []
 
 pub refused_rows : map read_codes others ≡ map (λ r. refused_by 20 empty_set) others
-unfolding read_codes covered joined_to split are_digits followed_by piece_of all_good items_of word
+unfolding read_codes covered are_digits followed_by piece_of all_good items_of word
 refused_rows = refl

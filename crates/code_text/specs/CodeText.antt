@@ -1,6 +1,7 @@
 -- The text of a set of codes, as the parameters of `a=fmtp:` give it (02, request 6; RFC 4733, 2.4.1): "One or more items are joined by
 -- commas: a number up to 255 without leading zeros, or a-b with a below b; no spaces; repeats and overlaps are read."
 use Rattle.std.specs.Prelude.{ℕ, ◌/◌, ◌%◌, ◌≤◌, ◌≡◌, Bool, true, false, not, cond, ◌&&◌, ◌||◌, List, [], ◌∷◌, ◌++◌, map, leb, ltb, eqb, length, get_or}
+use Rattle.std.specs.List.{slice_split}
 use Rattle.decimal.specs.Decimal.{digit, are_digits, value, no_zero_ahead}
 use Rattle.model.specs.declared.Codes.{Codes}
 use Rattle.refusals.specs.Refusals.{no_codes, none, ◌if◌else◌, Told, telling}
@@ -63,13 +64,8 @@ pub record Gives (text : List ℕ) (s : Codes) : Type 0 where
 -- exactly if the grammar gives it)
 
 -- the pieces between separators, one more than there are separators
-unfoldable pub joined_to : ℕ → List (List ℕ) → List (List ℕ)
-joined_to b [] = (b ∷ []) ∷ []
-joined_to b (p ∷ ps) = (b ∷ p) ∷ ps
-
-unfoldable pub split : ℕ → List ℕ → List (List ℕ)
-split separator [] = [] ∷ []
-split separator (b ∷ bs) = cond (eqb b separator) ([] ∷ split separator bs) (joined_to b (split separator bs))
+abbrev pub split : ℕ → List ℕ → List (List ℕ)
+split separator bs = slice_split (λ b. eqb b separator) bs
 
 -- one digit or more, a 0 first only if it is alone, and at most 255
 abbrev pub is_number : List ℕ → Bool

@@ -14,7 +14,6 @@ use lib.ListN.{length, get_or, length-append}
 use Rattle.model.specs.declared.Codes.{Codes}
 use Rattle.refusals.specs.Refusals.{answered, refused_by}
 use Rattle.model.specs.Codes.{is_in, is_empty, among, codes_in, count_of, lowest_of}
-use Rattle.codes.specs.Words.{PlusOnes, LowestFrom}
 use Rattle.theorems.proofs.Bits.{Tells, half, bit_is, tells_first, tells_rest}
 use Rattle.codes.proofs.Laws.{some_from_0, some_from_64, some_from_128, last_tells}
 use Rattle.theorems.proofs.Sets.{told_0, told_64, told_128, told_192}
@@ -54,24 +53,21 @@ module _ (s : Codes) where
       go true e = omega (arith, e)
       go false e = omega (arith, e)
 
-  pub all_counted : (l m n r : ℕ) → PlusOnes 0 s.from_0 l → PlusOnes l s.from_64 m → PlusOnes m s.from_128 n
-      → PlusOnes n s.from_192 r → r ≡ count_of s
-  all_counted l m n r p q u v =
-      omega (
-        arith,
-        ap length by_words,
-        length-append (among s 0 64) (among s 64 64 ++ (among s 128 64 ++ among s 192 64)),
-        length-append (among s 64 64) (among s 128 64 ++ among s 192 64),
-        length-append (among s 128 64) (among s 192 64),
-        count_in 64 0 s.from_0 p.fits (told_0 s),
-        count_in 64 64 s.from_64 q.fits (told_64 s),
-        count_in 64 128 s.from_128 u.fits (told_128 s),
-        count_in 64 192 s.from_192 v.fits (told_192 s),
-        p.sum,
-        q.sum,
-        u.sum,
-        v.sum,
-      )
+  module _ (h₀ : s.from_0 < 2 ^ 64) (h₁ : s.from_64 < 2 ^ 64) (h₂ : s.from_128 < 2 ^ 64) (h₃ : s.from_192 < 2 ^ 64) where
+    pub all_counted : (r : ℕ) → r ≡ ones s.from_0 + ones s.from_64 + ones s.from_128 + ones s.from_192 → r ≡ count_of s
+    all_counted r e =
+        omega (
+          arith,
+          ap length by_words,
+          length-append (among s 0 64) (among s 64 64 ++ (among s 128 64 ++ among s 192 64)),
+          length-append (among s 64 64) (among s 128 64 ++ among s 192 64),
+          length-append (among s 128 64) (among s 192 64),
+          count_in 64 0 s.from_0 h₀ (told_0 s),
+          count_in 64 64 s.from_64 h₁ (told_64 s),
+          count_in 64 128 s.from_128 h₂ (told_128 s),
+          count_in 64 192 s.from_192 h₃ (told_192 s),
+          e,
+        )
 
   -- THE LOWEST
 
@@ -115,28 +111,28 @@ module _ (s : Codes) where
       ∙ sym (append-nil (among s 192 64))
 
   module _ (r : ℕ) where
-    pub lowest_below_64 : (s.from_0 ≡ 0 → ⊥) → LowestFrom 0 s.from_0 r → answered r ≡ lowest_of s
-    lowest_below_64 here f =
-        lowest_is _ r (ap (λ (l : List ℕ). get_or l 0 0) by_words ∙ lowest_in 64 0 s.from_0 _ f.fits here (told_0 s)) f.sum
+    pub lowest_below_64 : (s.from_0 ≡ 0 → ⊥) → s.from_0 < 2 ^ 64 → r ≡ count_trailing_zeros 64 s.from_0 → answered r ≡ lowest_of s
+    lowest_below_64 here fits f =
+        lowest_is _ r (ap (λ (l : List ℕ). get_or l 0 0) by_words ∙ lowest_in 64 0 s.from_0 _ fits here (told_0 s)) (omega (arith, f))
         (some_from_0 s here)
 
     module _ (x : s.from_0 ≡ 0) where
-      pub lowest_below_128 : (s.from_64 ≡ 0 → ⊥) → LowestFrom 64 s.from_64 r → answered r ≡ lowest_of s
-      lowest_below_128 here f =
-          lowest_is _ r (ap (λ (l : List ℕ). get_or l 0 0) (after_0 x) ∙ lowest_in 64 64 s.from_64 _ f.fits here (told_64 s)) f.sum
+      pub lowest_below_128 : (s.from_64 ≡ 0 → ⊥) → s.from_64 < 2 ^ 64 → r ≡ 64 + count_trailing_zeros 64 s.from_64 → answered r ≡ lowest_of s
+      lowest_below_128 here fits f =
+          lowest_is _ r (ap (λ (l : List ℕ). get_or l 0 0) (after_0 x) ∙ lowest_in 64 64 s.from_64 _ fits here (told_64 s)) f
           (some_from_64 s x here)
 
       module _ (y : s.from_64 ≡ 0) where
-        pub lowest_below_192 : (s.from_128 ≡ 0 → ⊥) → LowestFrom 128 s.from_128 r → answered r ≡ lowest_of s
-        lowest_below_192 here f =
-            lowest_is _ r (ap (λ (l : List ℕ). get_or l 0 0) (after_64 x y) ∙ lowest_in 64 128 s.from_128 _ f.fits here (told_128 s))
-            f.sum (some_from_128 s x y here)
+        pub lowest_below_192 : (s.from_128 ≡ 0 → ⊥) → s.from_128 < 2 ^ 64 → r ≡ 128 + count_trailing_zeros 64 s.from_128 → answered r ≡ lowest_of s
+        lowest_below_192 here fits f =
+            lowest_is _ r (ap (λ (l : List ℕ). get_or l 0 0) (after_64 x y) ∙ lowest_in 64 128 s.from_128 _ fits here (told_128 s))
+            f (some_from_128 s x y here)
 
         module _ (z : s.from_128 ≡ 0) where
-          pub lowest_below_256 : (s.from_192 ≡ 0 → ⊥) → LowestFrom 192 s.from_192 r → answered r ≡ lowest_of s
-          lowest_below_256 here f =
-              lowest_is _ r (ap (λ (l : List ℕ). get_or l 0 0) (after_128 x y z) ∙ lowest_in 64 192 s.from_192 _ f.fits here (told_192 s))
-              f.sum (sym (ne_eqb s.from_192 0 here) ∙ last_tells s x y z)
+          pub lowest_below_256 : (s.from_192 ≡ 0 → ⊥) → s.from_192 < 2 ^ 64 → r ≡ 192 + count_trailing_zeros 64 s.from_192 → answered r ≡ lowest_of s
+          lowest_below_256 here fits f =
+              lowest_is _ r (ap (λ (l : List ℕ). get_or l 0 0) (after_128 x y z) ∙ lowest_in 64 192 s.from_192 _ fits here (told_192 s))
+              f (sym (ne_eqb s.from_192 0 here) ∙ last_tells s x y z)
 
   pub no_lowest : s.from_0 ≡ 0 → s.from_64 ≡ 0 → s.from_128 ≡ 0 → s.from_192 ≡ 0 → refused_by 20 0 ≡ lowest_of s
   no_lowest w x y z = rw (w, x, y, z)

@@ -9,18 +9,12 @@ pub fn raised_if(counts: bool, n: usize) -> usize
     requires { n < 0xffff_ffff_ffff_ffff }
     ensures { result ≡ n + bit counts }
 {
-    if counts {
-        return n + 1;
-    }
-    n
+    n + usize::from(counts)
 }
 
 // (timestamp - n) modulo 2^32.
 pub fn minus(timestamp: u32, n: u32) -> u32
     ensures { result ≡ minus timestamp n }
 {
-    if n <= timestamp {
-        return timestamp - n;
-    }
-    timestamp + (0xffff_ffff - n) + 1
+    timestamp.wrapping_sub(n)
 }
