@@ -2,10 +2,12 @@
 #![tactic(auto)]
 
 ghost use Rattle.std.specs.Prelude.{◌≡◌, ◌<◌, ◌≤◌, ◌/◌, ◌%◌, ◌^◌, eqb};
-ghost use Rattle.model.specs.Codes.{is_in, is_empty, empty_set, the_keys, count_of, lowest_of, told_lowest};
+ghost use Rattle.model.specs.Codes.{is_in, is_empty, empty_set, the_keys, count_of, lowest_of};
+ghost use Rattle.refusals.specs.Refusals.{told};
 ghost use Rattle.codes.specs.Words.{PlusOnes, LowestFrom};
 
-use model::{Codes, LowestAnswer};
+use model::Codes;
+use refusals::Refusal;
 
 // The set of no codes.
 pub fn none() -> Codes
@@ -108,20 +110,20 @@ fn lowest_from(c: u32, word: u64) -> u32
 }
 
 // The lowest code that the set holds, or 20 if it is empty.
-pub fn lowest(codes: Codes) -> LowestAnswer
-    ensures { told_lowest result ≡ lowest_of codes }
+pub fn lowest(codes: Codes) -> Result<u32, Refusal>
+    ensures { told 0 result ≡ lowest_of codes }
 {
     if codes.from_0 != 0 {
-        return LowestAnswer::Lowest(lowest_from(0, codes.from_0));
+        return Ok(lowest_from(0, codes.from_0));
     }
     if codes.from_64 != 0 {
-        return LowestAnswer::Lowest(lowest_from(64, codes.from_64));
+        return Ok(lowest_from(64, codes.from_64));
     }
     if codes.from_128 != 0 {
-        return LowestAnswer::Lowest(lowest_from(128, codes.from_128));
+        return Ok(lowest_from(128, codes.from_128));
     }
     if codes.from_192 != 0 {
-        return LowestAnswer::Lowest(lowest_from(192, codes.from_192));
+        return Ok(lowest_from(192, codes.from_192));
     }
-    LowestAnswer::Refused(refusals::NO_CODES)
+    Err(Refusal::NoCodes)
 }

@@ -3,106 +3,80 @@
 
 ghost use Rattle.std.specs.Prelude.{◌≡◌, ◌≤◌, length};
 ghost use Rattle.model.specs.Packet.{marker, payload_type, sequence, timestamp, ssrc, after_header};
-ghost use Rattle.header.specs.Stage.{start_of, end_of, header_of, refusal_of_header};
+ghost use Rattle.refusals.specs.Refusals.{told};
+ghost use Rattle.header.specs.Stage.{start_of, end_of, no_place, header_of};
 
 use big_endian::{number_16, number_32};
+use refusals::Refusal;
 
-// A place in a packet.
-#[derive(Clone, Copy)]
-pub enum Place {
-    At(usize),
-    Nowhere,
-}
-
-// The first stage's answer: where the payload starts and ends.
-#[derive(Clone, Copy)]
-pub enum Header {
-    Found { start: usize, end: usize },
-    Refused(u8),
+// Where a payload starts and ends in a packet.
+#[derive(Clone, Copy, Debug, PartialEq, Eq)]
+pub struct Place {
+    pub start: usize,
+    pub end: usize,
 }
 
 // Where the payload starts: after the CSRC list and, if X is set, the extension.
-fn start_of(s: &[u8]) -> Place
+#[tactic(auto, using(crate::proofs::Laws::heading))]
+fn start_of(s: &[u8]) -> Result<usize, Refusal>
     requires { 12 ≤ length s.now }
-    ensures { result ≡ start_of s.now }
+    ensures { told 0 result ≡ start_of s.now }
 {
     let first = s[0];
-    let listed = 12 + 4 * ((first % 16) as usize);
-    if first / 16 % 2 != 1 {
-        if s.len() < listed {
-            return Place::Nowhere;
-        }
-        return Place::At(listed);
-    }
-    if s.len() < listed + 4 {
-        return Place::Nowhere;
-    }
-    let words = number_16(s, listed + 2) as usize;
-    let start = listed + (4 + 4 * words);
+    let listed = 12 + 4 * usize::from(first % 16);
+    let start = if first / 16 % 2 != 1 {
+        listed
+    } else if s.len() < listed + 4 {
+        return Err(Refusal::HeaderPastEnd);
+    } else {
+        listed + (4 + 4 * usize::from(number_16(s, listed + 2)))
+    };
     if s.len() < start {
-        return Place::Nowhere;
+        return Err(Refusal::HeaderPastEnd);
     }
-    Place::At(start)
+    Ok(start)
 }
 
 // Where the payload ends: before the padding, if P is set.
-fn end_of(s: &[u8], start: usize) -> Place
+#[tactic(auto, using(crate::proofs::Laws::heading))]
+fn end_of(s: &[u8], start: usize) -> Result<usize, Refusal>
     requires in_bounds { 12 ≤ length s.now }
     requires start_value { start ≡ after_header s.now }
     requires start_in_bounds { start ≤ length s.now }
-    ensures { result ≡ end_of s.now }
+    ensures { told 0 result ≡ end_of s.now }
 {
     let len = s.len();
     if s[0] / 32 % 2 != 1 {
-        return Place::At(len);
+        return Ok(len);
     }
-    let pad = s[len - 1] as usize;
-    if pad == 0 {
-        return Place::Nowhere;
+    let pad = usize::from(s[len - 1]);
+    if pad == 0 || len - start < pad {
+        return Err(Refusal::BadPadding);
     }
-    if len - start < pad {
-        return Place::Nowhere;
-    }
-    Place::At(len - pad)
+    Ok(len - pad)
 }
 
 // Reads a packet's header as far as its payload's place: refusals 1 to 4.
-pub fn header_of(s: &[u8]) -> Header
-    ensures { result ≡ header_of s.now }
+#[tactic(auto, using(crate::proofs::Laws::heading))]
+pub fn header_of(s: &[u8]) -> Result<Place, Refusal>
+    ensures { told no_place result ≡ header_of s.now }
 {
     if s.len() < 12 {
-        return Header::Refused(refusals::TOO_SHORT);
+        return Err(Refusal::TooShort);
     }
     // Version 2 with no padding, extension or CSRC list, as nearly all senders have it.
     if s[0] == 0x80 {
-        return Header::Found {
+        return Ok(Place {
             start: 12,
             end: s.len(),
-        };
+        });
     }
     if s[0] / 64 != 2 {
-        return Header::Refused(refusals::WRONG_VERSION);
+        return Err(Refusal::WrongVersion);
     }
-    let Place::At(start) = start_of(s) else {
-        return Header::Refused(refusals::HEADER_PAST_END);
-    };
-    let Place::At(end) = end_of(s, start) else {
-        return Header::Refused(refusals::BAD_PADDING);
-    };
-    Header::Found {
-        start: start,
-        end: end,
-    }
-}
-
-// The number of the first stage's refusal; 0 if there is none.
-pub fn header_refusal(h: Header) -> u8
-    ensures { result ≡ refusal_of_header h }
-{
-    let Header::Refused(n) = h else {
-        return 0;
-    };
-    n
+    let start = start_of(s)?;
+    let end = end_of(s, start)?;
+    Ok(Place { start, end })
 }
 
 // M, of a header that is there whole.

@@ -13,11 +13,9 @@ use Rattle.model.specs.declared.Segment.{Segment}
 use Rattle.model.specs.declared.Table.{Table}
 use Rattle.model.specs.declared.Listed.{Listed}
 use Rattle.model.specs.Codes.{is_in, empty_set, the_keys}
-use Rattle.refusals.specs.Refusals.{Told, answered, refused_by}
-use Rattle.model.specs.Answers.{told_write, told_count, told_event}
-use Rattle.model.specs.declared.WriteAnswer.TheVariants as write_answer
-use Rattle.model.specs.declared.CountAnswer.TheVariants as count_answer
-use Rattle.model.specs.declared.EventAnswer.TheVariants as event_answer
+use Rattle.refusals.specs.Refusals.{Told, answered, refused_by, told}
+use Rattle.refusals.specs.declared.Refusal.TheVariants as refusal
+use Rattle.std.specs.Prelude.{Err}
 use Rattle.model.specs.Packet.{packet_of, report_in_range, write}
 use Rattle.model.specs.Plan.{
   segment,
@@ -259,11 +257,11 @@ lists_told = refl
 -- A REFUSAL TOLD
 -- its number, and zeros
 
-pub count_refused : told_count (count_answer.Refused 12) ≡ refused_by 12 0
+pub count_refused : told {A = ℕ} 0 (Err refusal.OutOfRange) ≡ refused_by 12 0
 count_refused = refl
 
-pub event_refused : told_event (event_answer.Refused 13) ≡ refused_by 13 none
+pub event_refused : told none (Err refusal.NoSuchNumber) ≡ refused_by 13 none
 event_refused = refl
 
-pub write_refused : told_write (write_answer.Refused 14) ≡ refused_by 14 tt
+pub write_refused : told {A = Unit {0}} tt (Err refusal.OutputTooSmall) ≡ refused_by 14 tt
 write_refused = refl

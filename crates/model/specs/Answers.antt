@@ -1,17 +1,14 @@
--- How each enum answer is told: its refusal's number and its values, zeros if refused (01, "The form each place takes"). A promise
--- `told answer ≡ ..` determines the answer, since no two cases are told alike.
+-- The values that an answer holds where it is refused: zeros (01, "Numbers handed back when something is refused"); and the structs that
+-- hold a refusal's number, 0 if none, beside the values (01, "The form each place takes").
 use Rattle.std.specs.Prelude.{ℕ, false}
-use Rattle.refusals.specs.Refusals.{Told, answered, refused_by}
+use Rattle.refusals.specs.Refusals.{Told}
 use Rattle.model.specs.declared.Report.{Report}
 use Rattle.model.specs.declared.Event.{Event}
-use Rattle.model.specs.declared.ReadAnswer.{ReadAnswer}
-use Rattle.model.specs.declared.WriteAnswer.{WriteAnswer}
-use Rattle.model.specs.declared.CountAnswer.{CountAnswer}
-use Rattle.model.specs.declared.EventAnswer.{EventAnswer}
-use Rattle.model.specs.declared.ReadAnswer.TheVariants as read_answer
-use Rattle.model.specs.declared.WriteAnswer.TheVariants as write_answer
-use Rattle.model.specs.declared.CountAnswer.TheVariants as count_answer
-use Rattle.model.specs.declared.EventAnswer.TheVariants as event_answer
+use Rattle.model.specs.declared.Table.{Table}
+use Rattle.model.specs.declared.Opened.{Opened}
+use Rattle.model.specs.declared.Cursor.{Cursor}
+use Rattle.model.specs.declared.WalkStart.{WalkStart}
+use Rattle.model.specs.declared.Listed.{Listed}
 
 abbrev pub no_report : Report
 no_report = record {
@@ -29,19 +26,14 @@ no_report = record {
 abbrev pub no_event : Event
 no_event = record { code = 0; start = 0; length = 0; volume = 0; quietest = 0; began = false; ended = false }
 
-abbrev pub told_read : ReadAnswer → Told Report
-told_read (read_answer.Read r) = answered r
-told_read (read_answer.Refused n) = refused_by n no_report
+abbrev pub no_cursor : Cursor
+no_cursor = record { header = 0; body = 0; end = 0 }
 
--- writing has no value to tell
-abbrev pub told_write : WriteAnswer → Told (Unit {0})
-told_write write_answer.Written = answered tt
-told_write (write_answer.Refused n) = refused_by n tt
+abbrev pub opened_of : Told Table → Opened
+opened_of t = record { table = t.values; refusal = t.number }
 
-abbrev pub told_count : CountAnswer → Told ℕ
-told_count (count_answer.Reports n) = answered n
-told_count (count_answer.Refused n) = refused_by n 0
+abbrev pub walk_start_of : Told Cursor → WalkStart
+walk_start_of t = record { cursor = t.values; refusal = t.number }
 
-abbrev pub told_event : EventAnswer → Told Event
-told_event (event_answer.Found v) = answered v
-told_event (event_answer.Refused n) = refused_by n no_event
+abbrev pub listed_of : Told ℕ → Listed
+listed_of t = record { refusal = t.number; events = t.values }

@@ -2,13 +2,7 @@
 -- it if bit c % 64 of word c / 64 is 1. No code above 255 is.
 use Rattle.std.specs.Prelude.{ℕ, zero, suc, ◌+◌, ◌*◌, ◌/◌, ◌%◌, ◌^◌, Bool, cond, ◌&&◌, List, [], ◌∷◌, eqb, length, get_or}
 use Rattle.model.specs.declared.Codes.{Codes}
-use Rattle.model.specs.declared.CodesAnswer.{CodesAnswer}
-use Rattle.model.specs.declared.LowestAnswer.{LowestAnswer}
-use Rattle.model.specs.declared.TextAnswer.{TextAnswer}
-use Rattle.model.specs.declared.CodesAnswer.TheVariants as codes_answer
-use Rattle.model.specs.declared.LowestAnswer.TheVariants as lowest_answer
-use Rattle.model.specs.declared.TextAnswer.TheVariants as text_answer
-use Rattle.refusals.specs.Refusals.{no_codes, none, ◌if◌else◌, Told, answered, refused_by, telling}
+use Rattle.refusals.specs.Refusals.{no_codes, none, ◌if◌else◌, Told, telling}
 
 abbrev pub word_at : Codes → ℕ → ℕ
 word_at s i = get_or (s.from_0 ∷ s.from_64 ∷ s.from_128 ∷ s.from_192 ∷ []) i 0
@@ -56,17 +50,3 @@ word f c (suc n) = cond (f c) 1 0 + 2 * word f (suc c) n
 
 abbrev pub set_of : (ℕ → Bool) → Codes
 set_of f = record { from_0 = word f 0 64; from_64 = word f 64 64; from_128 = word f 128 64; from_192 = word f 192 64 }
-
--- HOW AN ANSWER IS TOLD
-
-abbrev pub told_lowest : LowestAnswer → Told ℕ
-told_lowest (lowest_answer.Lowest c) = answered c
-told_lowest (lowest_answer.Refused n) = refused_by n 0
-
-abbrev pub told_codes : CodesAnswer → Told Codes
-told_codes (codes_answer.Read s) = answered s
-told_codes (codes_answer.Refused n) = refused_by n empty_set
-
-abbrev pub told_text : TextAnswer → Told ℕ
-told_text (text_answer.Written n) = answered n
-told_text (text_answer.Refused n) = refused_by n 0

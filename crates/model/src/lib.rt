@@ -97,55 +97,6 @@ pub struct Event {
     pub ended: bool,
 }
 
-// What reading a text of codes answers.
-#[derive(Clone, Copy)]
-pub enum CodesAnswer {
-    Read(Codes),
-    Refused(u8),
-}
-
-// The lowest code of a set.
-#[derive(Clone, Copy)]
-pub enum LowestAnswer {
-    Lowest(u32),
-    Refused(u8),
-}
-
-// What writing a set of codes answers: how many bytes its text has.
-#[derive(Clone, Copy)]
-pub enum TextAnswer {
-    Written(usize),
-    Refused(u8),
-}
-
-// What reading a packet answers.
-#[derive(Clone, Copy)]
-pub enum ReadAnswer {
-    Read(Report),
-    Refused(u8),
-}
-
-// What writing a packet answers: a report given, or a report of a plan.
-#[derive(Clone, Copy)]
-pub enum WriteAnswer {
-    Written,
-    Refused(u8),
-}
-
-// How many reports a plan has.
-#[derive(Clone, Copy)]
-pub enum CountAnswer {
-    Reports(u32),
-    Refused(u8),
-}
-
-// The event at one number.
-#[derive(Clone, Copy)]
-pub enum EventAnswer {
-    Found(Event),
-    Refused(u8),
-}
-
 // An opened table; refusal 0, or the refusal's number with the empty table of zeros.
 #[repr(C)]
 #[derive(Clone, Copy)]

@@ -19,6 +19,11 @@ pub passed : (c : Bool) (n later : ℕ) → cond c (suc n) later ≡ none → (c
 passed true n later e = absurd (omega arith)
 passed false n later e = (refl, e)
 
+-- one test alone that did not pass gave its number
+pub only : (c : Bool) (n k : ℕ) → k ≡ cond c (suc n) none → eqb (cond c (suc n) none) none ≡ false → (k ≡ suc n) × (c ≡ true)
+only true n k e t = (e, refl)
+only false n k e t = absurd (false≢true (sym t))
+
 -- together the two stages refuse nothing only if neither does
 pub both_none : (first second : ℕ) → (first or_else second) ≡ none → (first ≡ none) × (second ≡ none)
 both_none zero second e = (refl, e)

@@ -3,7 +3,9 @@
 -- tested before it holds; 16 is tested first, the others in rising order, but for 17, which is tested at 7's place
 -- (02, request 1), for 18, 19 and then 15, which are tested after 6 and before 7 (02, request 2), and for 20, which is tested
 -- before 14 (02, request 6).
-use Rattle.std.specs.Prelude.{ℕ, Bool, true, false, cond, eqb}
+use Rattle.std.specs.Prelude.{ℕ, Bool, true, false, cond, eqb, Result, Ok, Err}
+use Rattle.refusals.specs.declared.Refusal.{Refusal}
+use Rattle.refusals.specs.declared.Refusal.TheVariants as refusal
 
 -- THE NUMBERS
 
@@ -94,6 +96,29 @@ no_codes = 20
 abbrev pub none : ℕ
 none = 0
 
+-- the number of each refusal as the code names it
+abbrev pub number_of : Refusal → ℕ
+number_of refusal.TooShort = too_short
+number_of refusal.WrongVersion = wrong_version
+number_of refusal.HeaderPastEnd = header_past_end
+number_of refusal.BadPadding = bad_padding
+number_of refusal.OtherPayloadType = other_payload_type
+number_of refusal.OtherSsrc = other_ssrc
+number_of refusal.NotOneReport = not_one_report
+number_of refusal.CodeNotInSet = code_not_in_set
+number_of refusal.NoDuration = no_duration
+number_of refusal.OffsetTooLarge = offset_too_large
+number_of refusal.TableFull = table_full
+number_of refusal.OutOfRange = out_of_range
+number_of refusal.NoSuchNumber = no_such_number
+number_of refusal.OutputTooSmall = output_too_small
+number_of refusal.ListTooSmall = list_too_small
+number_of refusal.InvalidTable = invalid_table
+number_of refusal.Packed = packed
+number_of refusal.HeadersRunOut = headers_run_out
+number_of refusal.BlocksTooLong = blocks_too_long
+number_of refusal.NoCodes = no_codes
+
 -- THE FIRST THAT APPLIES
 
 -- n if the condition holds, else what the later tests say
@@ -123,3 +148,8 @@ refused_by n zeros = record { refused = true; number = n; values = zeros }
 -- what a call tells whose refusal is n: a refusal returns its number and zeros elsewhere
 abbrev pub telling : {A : Type 0} → ℕ → A → A → Told A
 telling n zeros v = cond (eqb n none) (answered v) (refused_by n zeros)
+
+-- how an answer that is either given or refused is told
+abbrev pub told : {A : Type 0} → A → Result A Refusal → Told A
+told zeros (Ok v) = answered v
+told zeros (Err r) = refused_by (number_of r) zeros
