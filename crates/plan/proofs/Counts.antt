@@ -10,8 +10,7 @@ use mir.Val.{Fits}
 use borrow.Author.Tests.{not-true, not-false}
 use Rattle.model.specs.declared.Codes.{Codes}
 use Rattle.model.specs.declared.Plan.{Plan}
-use Rattle.model.specs.declared.CountAnswer.TheVariants.{Reports, Refused}
-use Rattle.model.specs.Answers.{told_count}
+use Rattle.refusals.specs.Refusals.{answered, refused_by}
 use Rattle.model.specs.Plan.{full_segments, rest_units, lengths_in_range, plan_in_range, report_count, reports}
 use Rattle.theorems.proofs.Sends.{length_ranges}
 use Rattle.plan_formulas.specs.Formula.{interim_count}
@@ -74,10 +73,10 @@ module _ (p : Plan) (h : lengths_in_range p ≡ true) (n : ℕ) (each : n ≡ in
       all_counted = rw (length_reports p, full, each, last, rest)
 
 module _ (codes : Codes) (p : Plan) (b : Bool) (tested : b ≡ plan_in_range codes p) where
-  pub refused : not b ≡ true → told_count (Refused 12) ≡ report_count codes p
+  pub refused : not b ≡ true → refused_by 12 0 ≡ report_count codes p
   refused h = rw (← tested, not-true b h)
 
-  pub all_told : not b ≡ false → (n : ℕ) → n ≡ length (reports p) → told_count (Reports n) ≡ report_count codes p
+  pub all_told : not b ≡ false → (n : ℕ) → n ≡ length (reports p) → answered n ≡ report_count codes p
   all_told h n e = rw (← tested, not-false b h, e)
 
 pub ruleset counting = (
