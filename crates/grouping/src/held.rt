@@ -18,7 +18,21 @@ pub struct Held<'a> {
 impl<'a> Held<'a> {
     ghost use Rattle.std.specs.Prelude.{◌<◌};
     ghost use Rattle.model.specs.Table.{segment_at};
+    ghost use Rattle.grouping.specs.Events.{events_of};
     ghost use Rattle.grouping.specs.Places.{begins, event_from, events_in};
+
+    // Those of a table: the first n places of its columns.
+    #[tactic(auto, using(crate::proofs::Laws::same_events))]
+    pub fn of(keys: &'a [u64; 128], heard: &'a [u32; 128], n: usize) -> Self
+        requires { InRanges keys.now heard.now n }
+        ensures places { length result.keys.now ≡ n }
+        ensures events { events_of result ≡ events_in keys.now heard.now n }
+    {
+        Held {
+            keys: &keys[..n],
+            heard: &heard[..n],
+        }
+    }
 
     // The segment at place i.
     fn segment(self, i: usize) -> Segment
@@ -50,7 +64,7 @@ impl<'a> Held<'a> {
 
     // How many events there are.
     pub fn count(self) -> usize
-        ensures { result ≡ length (events_in self.entry.keys.now self.entry.heard.now (length self.entry.keys.now)) }
+        ensures { result ≡ length (events_of self.entry) }
     {
         (0..self.keys.len()).filter(|&i| self.begins(i)).count()
     }

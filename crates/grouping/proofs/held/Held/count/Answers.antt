@@ -1,4 +1,4 @@
-use Rattle.std.proofs.Common.{length, rules, tests, arith, ◌∙◌}
+use Rattle.std.proofs.Common.{length, tests, arith, ◌∙◌}
 use Rattle.std.proofs.lemmas.Iterator.{YieldsList-from_range}
 use Rattle.std.proofs.lemmas.Iterator.Consumers.{YieldsList-from_filter, count_from_yields_List}
 use Rattle.grouping.specs.Places.{begins}
