@@ -1,122 +1,108 @@
--- Each way of the walk to an event and through the two calls, as a law over a table's columns.
-use Prim.Native.Nat.{ℕ, suc, ◌+◌, ◌-◌, ◌≤◌, ◌<◌}
-use mathlib.Core.Path.{◌≡◌, refl, sym, ◌∙◌, ap}
-use mathlib.Core.Bool.{Bool, true, false, not}
-use mathlib.Core.List.{List}
+-- Where the event at a number begins, and each way through the two calls, as laws over what a table holds.
+use Prim.Native.Nat.{ℕ, zero, suc, ◌+◌, ◌-◌, ◌≤◌, ◌<◌}
+use mathlib.Core.Path.{◌≡◌, refl, sym, ◌∙◌, ap, subst}
+use mathlib.Core.Bool.{Bool, true, false, cond}
+use mathlib.Core.List.{List, ◌∷◌}
 use native.Mathlib.Omega.{arith}
+use native.Mathlib.Decide.{dec_lt}
 use borrow.Author.Rules.{rules}
-use borrow.Author.Tests.{lt-ltb, le-ltb, ltb-true, ltb-false, eq-eqb, ne_eqb, not-true, not-false}
-use lib.Dec.{ltb}
+use borrow.Author.Tests.{le-ltb, ne_eqb}
 use lib.ListN.{length, get_or, drop}
+use Rattle.std.specs.Prelude.{Option, Some}
+use Rattle.std.specs.List.{filter, range_with_len, slice_get}
 use Rattle.model.specs.declared.Table.{Table}
 use Rattle.model.specs.declared.Event.{Event}
-use Rattle.refusals.specs.Refusals.{answered, refused_by}
+use Rattle.refusals.specs.Refusals.{answered}
 use Rattle.model.specs.Answers.{no_event}
 use Rattle.model.specs.Table.{valid}
-use Rattle.model.specs.List.{events, event_at, list_answer}
-use Rattle.grouping.specs.Places.{begins, event_from, events_after, events_in}
+use Rattle.model.specs.List.{events, event_at}
+use Rattle.grouping.specs.declared.held.Held.{Held}
+use Rattle.grouping.specs.Events.{events_of, events_from}
+use Rattle.grouping.specs.Places.{begins, event_from, events_after}
+use Rattle.grouping.proofs.Laws.{all_after, none_after, begun, passed}
 use Rattle.events.specs.Numbers.{Finds}
-use Rattle.grouping.proofs.Laws.{in_ranges, fewer, all_after, none_after, begun, passed}
 
--- THE WALK TO AN EVENT
+-- WHERE AN EVENT BEGINS
 
-module _ (keys heard : List ℕ) where
-  -- event k of those from a place on begins at place i or later, and has the number `left` among those that do
-  pub record OnTheWay (n from k i left : ℕ) : Type 0 where
-    pub less : i < n
-    pub some : left < length (events_after keys heard n i)
-    pub event : get_or (events_after keys heard n i) left no_event ≡ get_or (events_after keys heard n from) k no_event
-    pub rest : drop (suc left) (events_after keys heard n i) ≡ drop (suc k) (events_after keys heard n from)
+module _ (keys heard : List ℕ) (n : ℕ) where
+  -- of those from place `from` on, event k begins where the option says
+  pub record Found (from k : ℕ) (o : Option ℕ) : Type 0 where
+    pub place : ℕ
+    pub is : o ≡ Some place
+    pub finds : Finds keys heard n from k place
 
-  module _ (n from k : ℕ) where
-    -- an event still to come begins at some place
-    walking : (i left : ℕ) → left < length (events_after keys heard n i)
-        → get_or (events_after keys heard n i) left no_event ≡ get_or (events_after keys heard n from) k no_event
-        → drop (suc left) (events_after keys heard n i) ≡ drop (suc k) (events_after keys heard n from) → OnTheWay n from k i left
-    walking i left h e d = record { less = go (ltb i n) refl; some = h; event = e; rest = d }
-      where
-        go : (b : Bool) → ltb i n ≡ b → i < n
-        go true f = ltb-true i n f
-        go false f = absurd (omega (arith, ap length (none_after keys heard n i (ltb-false i n f))))
+  pub at_place : {from k : ℕ} {o : Option ℕ} → Found from k o → (i : ℕ) → o ≡ Some i → Finds keys heard n from k i
+  at_place {from} {k} f i e = let same : f.place ≡ i = (cc (f.is, e)) in subst (Finds keys heard n from k) same f.finds
 
-    pub walk_starts : k < length (events_after keys heard n from) → OnTheWay n from k from k
-    walk_starts h = walking from k h refl refl
+  -- m places from one on, those that begin an event
+  abbrev pub beginnings : ℕ → ℕ → List ℕ
+  beginnings from m = filter (begins keys heard) (range_with_len from m)
 
-    module _ (i left : ℕ) (w : OnTheWay n from k i left) (b : Bool) (is : b ≡ begins keys heard i) where
-      pub walk_passes : b ≡ false → OnTheWay n from k (i + 1) left
-      walk_passes e =
-          let same = passed keys heard n i w.less b is e in
-          walking (i + 1) left (rw same at w.some) (rw same at w.event) (rw same at w.rest)
+  module _ (from : ℕ) (less : from < n) (l : List ℕ) where
+    -- if it is so of the events after this place, it is so of those from here on
+    next : (b : Bool) → b ≡ begins keys heard from
+        → ((k : ℕ) → k < length (events_after keys heard n (from + 1)) → Found (from + 1) k (slice_get l k))
+        → (k : ℕ) → k < length (events_after keys heard n from) → Found from k (slice_get (cond b (from ∷ l) l) k)
+    next true is later zero h =
+        let first = begun keys heard n from less true is refl in
+        record {
+          place = from;
+          is = refl;
+          finds = record {
+            less = less;
+            event = ap (λ (es : List Event). get_or es 0 no_event) (sym first);
+            rest = ap (drop 1) (sym first);
+          };
+        }
+    next true is later (suc k) h =
+        let first = begun keys heard n from less true is refl in
+        let r = later k (omega (arith, h, ap length first)) in
+        record {
+          place = r.place;
+          is = r.is;
+          finds = record {
+            less = r.finds.less;
+            event = r.finds.event ∙ ap (λ (es : List Event). get_or es (suc k) no_event) (sym first);
+            rest = r.finds.rest ∙ ap (drop (suc (suc k))) (sym first);
+          };
+        }
+    next false is later k h =
+        let same = passed keys heard n from less false is refl in
+        let r = later k (rw same at h) in
+        record {
+          place = r.place;
+          is = r.is;
+          finds = record {
+            less = r.finds.less;
+            event = r.finds.event ∙ ap (λ (es : List Event). get_or es k no_event) (sym same);
+            rest = r.finds.rest ∙ ap (drop (suc k)) (sym same);
+          };
+        }
 
-      module _ (e : b ≡ true) where
-        pub walk_on : (left ≡ 0 → ⊥) → OnTheWay n from k (i + 1) (left - 1)
-        walk_on z =
-            let one : left ≡ suc (left - 1) = omega arith in
-            let first = begun keys heard n i w.less b is e in
-            walking (i + 1) (left - 1) (omega (arith, w.some, ap length first))
-            (rw (one, first) at w.event) (rw (one, first) at w.rest)
+  pub found : (m from : ℕ) → from + m ≡ n → (k : ℕ) → k < length (events_after keys heard n from) → Found from k (slice_get (beginnings from m) k)
+  found zero from e k h = absurd (omega (arith, h, ap length (none_after keys heard n from (omega arith))))
+  found (suc m) from e k h = next from (omega arith) (beginnings (from + 1) m) (begins keys heard from) refl (found m (from + 1) (omega arith)) k h
 
-        pub walk_found : left ≡ 0 → Finds keys heard n from k i
-        walk_found z =
-            let first = begun keys heard n i w.less b is e in
-            record { less = w.less; event = rw (z, first) at w.event; rest = rw (z, first) at w.rest }
+  -- an event still to come begins before the last place
+  pub some_left : (from k : ℕ) → k < length (events_after keys heard n from) → from ≤ n
+  some_left from k h = go (dec_lt n from)
+    where
+      go : Dec (n < from) → from ≤ n
+      go (yes l) = absurd (omega (arith, h, ap length (none_after keys heard n from (omega arith))))
+      go (no l) = omega arith
 
-  pub all_from_0 : (n k : ℕ) → k < length (events_in keys heard n) → k < length (events_after keys heard n 0)
-  all_from_0 n k h = omega (arith, ap length (all_after keys heard n))
+-- THE EVENT AT A NUMBER
 
-  pub by_number : (n k i : ℕ) → Finds keys heard n 0 k i → (v : Event) → v ≡ event_from keys heard n i
-      → v ≡ get_or (events_in keys heard n) k no_event
-  by_number n k i w v e = e ∙ w.event ∙ ap (λ (l : List Event). get_or l k no_event) (all_after keys heard n)
+module _ (h : Held) (k : ℕ) where
+  pub all_from_0 : k < length (events_of h) → k < length (events_from h 0)
+  all_from_0 l = omega (arith, ap length (all_after h.keys.now h.heard.now (length h.keys.now)))
 
--- THE EVENT AT A NUMBER, AND THE LIST CALL'S ANSWER
+  pub number_found : (t : Table) → (valid t ≡ true) × (events_of h ≡ events t) → (k ≡ 0 → ⊥) → k ≤ length (events_of h)
+      → (i : ℕ) → Finds h.keys.now h.heard.now (length h.keys.now) 0 (k - 1) i
+      → (v : Event) → v ≡ event_from h.keys.now h.heard.now (length h.keys.now) i → answered v ≡ event_at t k
+  number_found t holds some few i found v is =
+      let all : events_from h 0 ≡ events t = all_after h.keys.now h.heard.now (length h.keys.now) ∙ holds.1 in
+      let e : v ≡ get_or (events t) (k - 1) no_event = is ∙ found.event ∙ ap (λ (l : List Event). get_or l (k - 1) no_event) all in
+      ap answered e ∙ rw (holds.0, ne_eqb k 0 some, le-ltb (length (events t)) k (rw holds.1 at few))
 
-module _ (t : Table) (ok : Bool) (test : ok ≡ valid t) where
-  pub passes_test : not ok ≡ false → valid t ≡ true
-  passes_test h = sym test ∙ not-false ok h
-
-  module _ (k : ℕ) where
-    pub fails_test : not ok ≡ true → refused_by 16 no_event ≡ event_at t k
-    fails_test h = rw (sym test ∙ not-true ok h)
-
-    module _ (passed : not ok ≡ false) where
-      pub number_zero : k ≡ 0 → refused_by 13 no_event ≡ event_at t k
-      number_zero z = rw (passes_test passed, eq-eqb k 0 z)
-
-      module _ (some : k ≡ 0 → ⊥) (n : ℕ) (all : n ≡ length (events t)) where
-        pub number_high : n < k → refused_by 13 no_event ≡ event_at t k
-        number_high h = rw (passes_test passed, ne_eqb k 0 some, lt-ltb (length (events t)) k (rw all at h))
-
-        pub number_found : k ≤ n → (v : Event) → v ≡ get_or (events t) (k - 1) no_event → answered v ≡ event_at t k
-        number_found h v e =
-            ap answered e ∙ rw (passes_test passed, ne_eqb k 0 some, le-ltb (length (events t)) k (rw all at h))
-
-  module _ (room : ℕ) where
-    pub list_fails_test : not ok ≡ true → record { refusal = 16; events = 0 } ≡ list_answer t room
-    list_fails_test h = rw (sym test ∙ not-true ok h)
-
-    module _ (passed : not ok ≡ false) (n : ℕ) (all : n ≡ length (events t)) where
-      pub list_small : room < n → record { refusal = 15; events = 0 } ≡ list_answer t room
-      list_small h = rw (passes_test passed, lt-ltb room (length (events t)) (rw all at h))
-
-      pub list_fits : n ≤ room → record { refusal = 0; events = n } ≡ list_answer t room
-      list_fits h = rw (all, passes_test passed, le-ltb room (length (events t)) (rw all at h))
-
-pub ruleset table_events = (
-  rules,
-  in_ranges,
-  fewer,
-  walk_starts,
-  walk_passes,
-  walk_on,
-  walk_found,
-  all_from_0,
-  by_number,
-  passes_test,
-  fails_test,
-  number_zero,
-  number_high,
-  number_found,
-  list_fails_test,
-  list_small,
-  list_fits,
-)
+pub ruleset table_events = (rules, all_from_0, number_found)

@@ -1,29 +1,29 @@
-use Rattle.events.proofs.Laws.{table_events}
+use Rattle.std.proofs.Common.{◌≡◌, ◌-◌, length, refl, tests, arith, sym, subst}
+use Rattle.std.specs.List.{slice_get}
+use Rattle.std.specs.Option.{IsSome}
+use Rattle.std.proofs.lemmas.Iterator.{YieldsList-from_range}
+use Rattle.std.proofs.lemmas.Iterator.Adapters.{option_map_id}
+use Rattle.std.proofs.lemmas.Iterator.Consumers.{YieldsList-from_filter, nth_from_yields_List}
+use Rattle.grouping.specs.Places.{begins}
+use Rattle.events.proofs.Laws.{beginnings, Found, found, at_place, some_left}
 use Rattle.events.proofs.event_place.Goals as goal
 
-pub loop-n-init : goal.loop-n-init
-loop-n-init c = search table_events
+-- what `nth` gave
+place : (c : goal.After-nth) → Found c.args.held.keys.now c.args.held.heard.now (length c.args.held.keys.now) c.args.from c.args.k c.nth.result
+place c =
+    let keys = c.args.held.keys.now in
+    let heard = c.args.held.heard.now in
+    let n = length keys in
+    let some = some_left keys heard n c.args.from c.args.k c.requires in
+    let places = YieldsList-from_range c.args.from n (n - c.args.from) (cc) (omega arith) in
+    let begun = YieldsList-from_filter _ (begins keys heard) places c.filter.ensures.closure (λ x r q k. grind (arith, tests, k)) in
+    let given = nth_from_yields_List c.nth.result c.nth.new.self _ c.nth.ensures.ran begun in
+    let is : c.nth.result ≡ slice_get (beginnings keys heard n c.args.from (n - c.args.from)) c.args.k = cc (option_map_id c.nth.result, given) in
+    subst (Found keys heard n c.args.from c.args.k) (sym is)
+    (found keys heard n (n - c.args.from) c.args.from (omega (arith, some)) c.args.k c.requires)
 
-pub overflow_add-i : goal.overflow_add-i
-overflow_add-i c = search table_events
+pub unwrap-requires : goal.unwrap-requires
+unwrap-requires c = subst IsSome (sym (place c).is) refl
 
-pub begins_at-requires : goal.begins_at-requires
-begins_at-requires c = search table_events
-
-pub returns-then-left-eq0 : goal.returns-then-left-eq0
-returns-then-left-eq0 c = search table_events
-
-pub overflow_sub-left : goal.overflow_sub-left
-overflow_sub-left c = search table_events
-
-pub loop-n-smaller-then-begins_at : goal.loop-n-smaller-then-begins_at
-loop-n-smaller-then-begins_at c = search table_events
-
-pub loop-n-preserved-then-begins_at : goal.loop-n-preserved-then-begins_at
-loop-n-preserved-then-begins_at c = search table_events
-
-pub loop-n-smaller : goal.loop-n-smaller
-loop-n-smaller c = search table_events
-
-pub loop-n-preserved : goal.loop-n-preserved
-loop-n-preserved c = search table_events
+pub returns : goal.returns
+returns c = at_place _ _ _ (place c.before) _ c.unwrap.ensures
