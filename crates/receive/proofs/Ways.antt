@@ -165,8 +165,7 @@ module _ (r : Receiving) (t : Tested) (a : Received) where
     answer = d.answer;
     table = (λ i. table_of (head i) (keys i) (heard i)) ∙ d.table;
     head = head;
-    keys = k;
-    heard = w;
+    lent = record { keys = k; heard = w };
     bounded = d.bounded;
     small = d.small;
   }

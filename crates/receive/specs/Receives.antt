@@ -11,14 +11,18 @@ use Rattle.receive.specs.declared.Tested.{Tested}
 abbrev pub in_table : Tested → Table
 in_table t = table_of t.head t.keys.now t.heard.now
 
+-- the columns are those that were lent
+pub record SameColumns (t t' : Tested) : Type 0 where
+  pub keys : t'.keys.ghost_name ≡ t.keys.ghost_name
+  pub heard : t'.heard.ghost_name ≡ t.heard.ghost_name
+
 -- it answers what the model says, leaves the table that the model says, in the same columns, the search looks at no more than 8 entries,
 -- and the refusal's number fits in a byte
 pub record Does (r : Receiving) (t : Tested) (a : Received) (t' : Tested) : Type 0 where
   pub answer : a ≡ r.answer
   pub table : in_table t' ≡ r.table
   pub head : t'.head ≡ holding a.count t.head
-  pub keys : t'.keys.ghost_name ≡ t.keys.ghost_name
-  pub heard : t'.heard.ghost_name ≡ t.heard.ghost_name
+  pub lent : SameColumns t t'
   pub bounded : a.probes ≤ 8
   pub small : a.refusal < 256
 
