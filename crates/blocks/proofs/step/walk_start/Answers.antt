@@ -1,32 +1,24 @@
-use Rattle.blocks.proofs.Steps.{stepping}
+-- The header's place, and what the headers of its blocks say, are where the walk starts.
+use Rattle.std.proofs.lemmas.Result.{err_from_is_err_and}
+use Rattle.header.proofs.Laws.{starts_before_end, ends_within}
+use Rattle.blocks.proofs.Steps.{no_start, not_carried, started}
 use Rattle.blocks.proofs.step.walk_start.Goals as goal
 
-pub header_of-h-requires : goal.header_of-h-requires
-header_of-h-requires c = search stepping
+pub returns-in_err-place : goal.returns-in_err-place
+returns-in_err-place c =
+    let e = err_from_is_err_and c.from_residual.result c.from_residual.ensures.1 in
+    rw (e.1, e.2) (no_start c.args.s.now _ c.in_err-place.ensures)
 
-pub enum_known-h : goal.enum_known-h
-enum_known-h c = search stepping
+pub scan-requires-clause-start_le_end : goal.scan-requires-clause-start_le_end
+scan-requires-clause-start_le_end c = starts_before_end c.args.s.now c.in_ok-place.place c.in_ok-place.ensures
 
-pub enum_told-1 : goal.enum_told-1
-enum_told-1 c = search stepping
+pub scan-requires-clause-end_in_bounds : goal.scan-requires-clause-end_in_bounds
+scan-requires-clause-end_in_bounds c = ends_within c.args.s.now c.in_ok-place.place c.in_ok-place.ensures
 
-pub header_refusal-requires : goal.header_refusal-requires
-header_refusal-requires c = search stepping
-
-pub refused_start-requires : goal.refused_start-requires
-refused_start-requires c = search stepping
-
-pub returns-in_default : goal.returns-in_default
-returns-in_default c = search stepping
-
-pub scan-said-requires : goal.scan-said-requires
-scan-said-requires c = search stepping
-
-pub refused_start-requires-then-said-ne0 : goal.refused_start-requires-then-said-ne0
-refused_start-requires-then-said-ne0 c = search stepping
-
-pub returns-then-said-ne0 : goal.returns-then-said-ne0
-returns-then-said-ne0 c = search stepping
+pub returns-in_err-scanned : goal.returns-in_err-scanned
+returns-in_err-scanned c =
+    let e = err_from_is_err_and c.from_residual-in_err-scanned.result c.from_residual-in_err-scanned.ensures.1 in
+    rw (e.1, e.2) (not_carried c.args.s.now c.in_ok-place.place c.in_ok-place.ensures _ c.in_err-scanned.ensures)
 
 pub returns : goal.returns
-returns c = search stepping
+returns c = started c.args.s.now c.in_ok-place.place c.in_ok-place.ensures c.in_ok-scanned.scanned c.in_ok-scanned.ensures
