@@ -1,7 +1,7 @@
 -- Decimal numbers: their digits, and the number that these say.
-use Rattle.std.specs.Prelude.{ℕ, ◌+◌, ◌-◌, ◌*◌, Bool, true, not, cond, ◌&&◌, ◌||◌, List, [], ◌∷◌, leb, eqb}
-use Rattle.decimal.specs.declared.Next.{Next}
-use Rattle.decimal.specs.declared.Next.TheVariants.{Number, NoDigit, TooLarge}
+use Rattle.std.specs.Prelude.{ℕ, ◌+◌, ◌-◌, ◌*◌, Bool, true, not, cond, ◌&&◌, ◌||◌, List, [], ◌∷◌, leb, eqb, Result, Ok, Err}
+use Rattle.decimal.specs.declared.NumberError.{NumberError}
+use Rattle.decimal.specs.declared.NumberError.TheVariants.{NoDigit, TooLarge}
 
 -- the character of one digit
 abbrev pub digit : ℕ → ℕ
@@ -33,8 +33,8 @@ abbrev pub no_zero_ahead : ℕ → ℕ → Bool
 no_zero_ahead first digits = leb digits 1 || not (eqb first 48)
 
 -- one digit more, if it is one and the number at most the limit
-unfoldable pub next_number : ℕ → ℕ → ℕ → Next
+unfoldable pub next_number : ℕ → ℕ → ℕ → Result ℕ NumberError
 next_number n b limit =
-    cond (not (is_digit b)) NoDigit
-    (cond (not (leb (n * 10 + (b - 48)) limit)) TooLarge
-    (Number (n * 10 + (b - 48))))
+    cond (not (is_digit b)) (Err NoDigit)
+    (cond (not (leb (n * 10 + (b - 48)) limit)) (Err TooLarge)
+    (Ok (n * 10 + (b - 48))))

@@ -4,30 +4,27 @@
 ghost use Rattle.std.specs.Prelude.{◌≡◌, ◌≤◌};
 ghost use Rattle.decimal.specs.Decimal.{digit, next_number};
 
-// What a number becomes when a character follows it.
-#[derive(Clone, Copy)]
-pub enum Next {
-    Number(u32),
+// Why a character makes no longer number.
+#[derive(Clone, Copy, Debug, PartialEq, Eq)]
+pub enum NumberError {
     NoDigit,
     TooLarge, // above the limit
 }
 
 // The number that n becomes when the character b follows it, if that is a digit, and the number at most the limit. Whoever stops at the
 // first that is not reads no number that is too long.
-pub fn next_number(n: u32, b: u8, limit: u32) -> Next
+#[tactic(auto, using(std::proofs::lemmas::Bool::Decides::nat_tests), unfolding(crate::specs::Decimal::next_number))]
+pub fn next_number(n: u32, b: u8, limit: u32) -> Result<u32, NumberError>
     ensures { result ≡ next_number n b limit }
 {
-    if b < 48 {
-        return Next::NoDigit;
+    if !b.is_ascii_digit() {
+        return Err(NumberError::NoDigit);
     }
-    if 57 < b {
-        return Next::NoDigit;
+    let next = u64::from(n) * 10 + u64::from(b - b'0');
+    if u64::from(limit) < next {
+        return Err(NumberError::TooLarge);
     }
-    let next = (n as u64) * 10 + ((b - 48) as u64);
-    if (limit as u64) < next {
-        return Next::TooLarge;
-    }
-    Next::Number(next as u32)
+    Ok(next as u32)
 }
 
 // The character of a digit.
@@ -35,5 +32,5 @@ pub fn digit(n: u32) -> u8
     requires { n ≤ 9 }
     ensures { result ≡ digit n }
 {
-    (48 + n) as u8
+    b'0' + n as u8
 }
