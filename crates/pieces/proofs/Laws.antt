@@ -12,7 +12,7 @@ use Rattle.theorems.proofs.Packets.{bytes_fit, fits_parts}
 use Rattle.theorems.proofs.Captures.{captured_within, unused_short, of_empty, in_pieces}
 use Rattle.pieces.specs.declared.counts.Counts.{Counts}
 use Rattle.pieces.specs.declared.SoFar.{SoFar}
-use Rattle.pieces.specs.Input.{counted, added, GoesOn, joined, HasReceived}
+use Rattle.pieces.specs.Input.{counted, added, GoesOn, joined}
 use Rattle.input.specs.Buffer.{Refills, Keeps}
 
 -- COUNTING
@@ -128,21 +128,21 @@ pub record Listens (t : Table) (s : SoFar) (keys heard b : List ℕ) : Type 0 wh
   pub pieces : List (List ℕ)
   pub stands : Stands t (joined pieces) s keys heard b
 
-pub begins : (h : Head) (keys heard b : List ℕ) → valid (table_of h keys heard) ≡ true → 131072 ≡ length b
-    → Listens (table_of h keys heard) (record { head = h; counts = record { taken = 0; refused = 0; packed = 0 }; left = 0 }) keys heard b
+pub begins : (h : Head) (keys heard b : List ℕ) (none : Counts) → (none.taken ≡ 0) × ((none.refused ≡ 0) × (none.packed ≡ 0))
+    → valid (table_of h keys heard) ≡ true → 131072 ≡ length b → Listens (table_of h keys heard) (record { head = h; counts = none; left = 0 }) keys heard b
 unfolding joined
-begins h keys heard b v long =
-    let none = sym (of_empty (table_of h keys heard) v) in
+begins h keys heard b none zero v long =
+    let nothing = sym (of_empty (table_of h keys heard) v) in
     record {
       passes = v;
       long = sym long;
       pieces = [];
       stands = record {
         bytes = λ x m. absurd (Memᴰ.not-nil m);
-        table = λ i. (none i).table;
-        counts = λ i. counted (none i).answer;
+        table = λ i. (nothing i).table;
+        counts = (λ i. record { taken = zero.0 i; refused = zero.1.0 i; packed = zero.1.1 i }) ∙ (λ i. counted (nothing i).answer);
         within = omega arith;
-        left = λ i. unused (none i).answer [];
+        left = λ i. unused (nothing i).answer [];
       };
     }
 
@@ -150,9 +150,6 @@ module _ (t : Table) (s : SoFar) (keys heard b : List ℕ) (w : Listens t s keys
   -- a part of one frame is left, so there is room to read more
   pub room_left : s.left < length b
   room_left = omega (arith, many_left t (joined w.pieces) s keys heard b w.stands, w.long, unused_short t (joined w.pieces) w.passes w.stands.bytes)
-
-  pub all_pieces : HasReceived t s keys heard
-  all_pieces = record { pieces = w.pieces; table = w.stands.table; counts = w.stands.counts; left = many_left t (joined w.pieces) s keys heard b w.stands }
 
   module _ (n : ℕ) (b' : List ℕ) (r : Refills s.left b n b') where
     pub one_came : (s' : SoFar) (keys' heard' b'' : List ℕ) → GoesOn s keys heard b' (s.left + n) s' keys' heard' b'' → Listens t s' keys' heard' b''
@@ -165,5 +162,3 @@ module _ (t : Table) (s : SoFar) (keys heard b : List ℕ) (w : Listens t s keys
           pieces = w.pieces ++ (p ∷ []);
           stands = rw (joined_one_more w.pieces p) (one_more t input s keys heard b w.stands n b' r s' keys' heard' b'' g);
         }
-
-pub ruleset listening = (rules, begins, room_left, all_pieces, one_came)
