@@ -9,11 +9,8 @@ use model::Head;
 // One pass over a buffer of packets, the table tested for each; answers the head after it.
 fn pass(head: Head, keys: &mut [u64; 128], heard: &mut [u32; 128], packets: &[u8]) -> Head {
     let mut after = head;
-    let mut at = 0usize;
-    while 16 <= packets.len() - at {
-        let got = receive::receive(after, keys, heard, &packets[at..at + 16]);
-        after.count = got.count;
-        at += 16;
+    for packet in packets.chunks_exact(16) {
+        after.count = receive::receive(after, keys, heard, packet).count;
     }
     after
 }
@@ -28,10 +25,8 @@ pub extern "C" fn bench_receive(
     passes: u32,
 ) -> usize {
     let mut after = head;
-    let mut k = passes;
-    while 0 < k {
+    for _ in 0..passes {
         after = pass(after, keys, heard, packets);
-        k -= 1;
     }
     after.count
 }
@@ -42,16 +37,14 @@ fn pass_valid(head: Head, keys: &mut [u64; 128], heard: &mut [u32; 128], packets
     ensures { valid (table_of result keys.new heard.new) ≡ true }
 {
     let mut after = head;
-    let mut at = 0usize;
-    while 16 <= packets.len() - at {
-        let got = receive::receive_valid(after, keys, heard, &packets[at..at + 16]);
-        after.count = got.count;
-        at += 16;
+    for packet in packets.chunks_exact(16) {
+        after.count = receive::receive_valid(after, keys, heard, packet).count;
     }
     after
 }
 
 // So many passes, the table tested once; 0 if it fails the tests.
+#[tactic(auto, using(receive::proofs::Ways::passed))]
 #[unsafe(no_mangle)]
 pub extern "C" fn bench_receive_valid(
     head: Head,
@@ -64,10 +57,8 @@ pub extern "C" fn bench_receive_valid(
         return 0;
     }
     let mut after = head;
-    let mut k = passes;
-    while 0 < k {
+    for _ in 0..passes {
         after = pass_valid(after, keys, heard, packets);
-        k -= 1;
     }
     after.count
 }
