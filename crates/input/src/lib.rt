@@ -1,7 +1,7 @@
 // A buffer that is filled from a reader, behind what stands in it and is still wanted.
 #![tactic(auto)]
 
-ghost use Rattle.std.specs.Prelude.{◌≤◌, ◌<◌, length, IfOk, MatchResult};
+ghost use Rattle.std.specs.Prelude.{◌≡◌, ◌≤◌, ◌<◌, length, IfOk, MatchResult};
 ghost use Rattle.input.specs.Buffer.{Refills, Keeps};
 
 use std::io;
@@ -15,6 +15,8 @@ pub struct Broken<T> {
 }
 
 impl<T: Drop> From<Broken<T>> for Error {
+    ghost from_gives = { λ broken why. why ≡ broken.why };
+
     fn from(broken: Broken<T>) -> Error {
         broken.why
     }

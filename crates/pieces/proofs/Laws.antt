@@ -30,30 +30,23 @@ fit_first : (n : ℕ) (b : List ℕ) → ((i : ℕ) → Fits w8 (get_or b i 0)) 
 fit_first n b f = (fits_parts n b (bytes_fit b f)).0
 
 module _ (s : SoFar) (keys heard b : List ℕ) (n : ℕ) (inside : n ≤ length b) (a : Captured)
-    (answer : a ≡ (receive_capture (table_of s.head keys heard) (take (n - 0) (drop 0 b))).answer) where
-  whole : take (n - 0) (drop 0 b) ≡ take n b
-  whole = let z : n - 0 ≡ n = omega arith in rw z
-
+    (answer : a ≡ (receive_capture (table_of s.head keys heard) (take n b)).answer) where
   pub used_inside : a.used ≤ n
   used_inside =
-      let within = captured_within (table_of s.head keys heard) (take (n - 0) (drop 0 b)) in
-      omega (arith, ap (λ (x : Captured). x.used) answer, within, ap length whole, length-take-le n b inside)
+      omega (arith, ap (λ (x : Captured). x.used) answer, captured_within (table_of s.head keys heard) (take n b), length-take-le n b inside)
 
   pub went_on : ((i : ℕ) → Fits w8 (get_or b i 0)) → (keys' heard' : List ℕ)
-      → table_of (holding a.count s.head) keys' heard' ≡ (receive_capture (table_of s.head keys heard) (take (n - 0) (drop 0 b))).table
+      → table_of (holding a.count s.head) keys' heard' ≡ (receive_capture (table_of s.head keys heard) (take n b)).table
       → (c : Counts) → c ≡ added s.counts a → (many : ℕ) (b' : List ℕ) → Keeps a.used n b many b'
       → GoesOn s keys heard b n (record { head = holding a.count s.head; counts = c; left = many }) keys' heard' b'
   went_on f keys' heard' table c e many b' k =
-      let u = table_of s.head keys heard in
-      let same = ap (λ (bs : List ℕ). receive_capture u bs) whole in
-      let x : a ≡ (receive_capture u (take n b)).answer = answer ∙ (λ i. (same i).answer) in
       record {
         same = k.same;
         bytes = fit_first n b f;
-        table = table ∙ (λ i. (same i).table);
-        counts = e ∙ ap (added s.counts) x;
+        table = table;
+        counts = e ∙ ap (added s.counts) answer;
         within = k.within;
-        left = k.front ∙ ap (λ (y : Captured). unused y (take n b)) x;
+        left = k.front ∙ ap (λ (y : Captured). unused y (take n b)) answer;
       }
 
 pub ruleset GoingOn = (rules, used_inside, went_on)

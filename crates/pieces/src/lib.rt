@@ -41,7 +41,7 @@ fn go_on(
     ensures { GoesOn so_far keys.old heard.old b.old n result keys.new heard.new b.new }
 {
     let mut head = so_far.head;
-    let got = receive_capture(head, keys, heard, &b[0..n]);
+    let got = receive_capture(head, keys, heard, &b[..n]);
     head.count = got.count;
     SoFar {
         head,
@@ -61,8 +61,7 @@ pub fn received<R: Read>(
     requires { valid (table_of head keys.old heard.old) ≡ true }
     ensures { MatchResult result (λ so_far. HasReceived (table_of head keys.old heard.old) so_far keys.new heard.new) (λ broken. HasReceived (table_of head keys.old heard.old) broken.before keys.new heard.new) }
 {
-    let mut space = buffer();
-    let b: &mut [u8] = &mut space;
+    let mut b = buffer();
     let mut so_far = SoFar {
         head,
         counts: Counts::default(),
@@ -70,9 +69,9 @@ pub fn received<R: Read>(
     };
     for _ in 0..u64::MAX {
         let from = so_far.left;
-        match refill(input, b, from) {
+        match refill(input, &mut b, from) {
             Ok(0) => return Ok(so_far),
-            Ok(bytes) => so_far = go_on(so_far, keys, heard, b, from + bytes),
+            Ok(bytes) => so_far = go_on(so_far, keys, heard, &mut b, from + bytes),
             Err(why) => return Err(Broken {
                 before: so_far,
                 why,

@@ -70,7 +70,7 @@ fn event(text: &mut Text, v: Event)
 
 // The events one by one, and how many they are. The text has room for 128, and a table has no more.
 #[tactic(auto, using(crate::proofs::Laws::printing_events))]
-fn events<'a>(text: &mut Text, head: Head, keys: &'a [u64; 128], heard: &'a [u32; 128]) -> usize
+fn events(text: &mut Text, head: Head, keys: &[u64; 128], heard: &[u32; 128]) -> usize
     requires { HasRoom 28672 text.old }
     ensures { Puts 28672 text.old text.new }
 {
@@ -94,7 +94,7 @@ fn counted(text: &mut Text, c: Counts)
 }
 
 // The whole list.
-fn list<'a>(c: SoFar, keys: &'a [u64; 128], heard: &'a [u32; 128]) -> Text {
+fn list(c: SoFar, keys: &[u64; 128], heard: &[u32; 128]) -> Text {
     let mut text = Text::new();
     let n = events(&mut text, c.head, keys, heard);
     line(&mut text, "events=", n as u64);
@@ -103,11 +103,11 @@ fn list<'a>(c: SoFar, keys: &'a [u64; 128], heard: &'a [u32; 128]) -> Text {
     text
 }
 
-pub fn listing<'a, R: Print + Eprint + AllocGlobal>(
+pub fn listing<R: Print + Eprint + AllocGlobal>(
     rt: &R,
     c: SoFar,
-    keys: &'a [u64; 128],
-    heard: &'a [u32; 128],
+    keys: &[u64; 128],
+    heard: &[u32; 128],
 ) {
     print(rt, list(c, keys, heard).as_str());
 }

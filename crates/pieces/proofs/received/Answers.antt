@@ -3,7 +3,7 @@ use Rattle.pieces.proofs.Laws.{begins, one_came, room_left}
 use Rattle.pieces.proofs.received.Goals as goal
 
 pub loop-init : goal.loop-init
-loop-init g c = begins _ _ _ _ _ c.default.ensures c.requires c.buffer-space.ensures
+loop-init g c = begins _ _ _ _ _ c.default.ensures c.requires c.buffer-b.ensures
 
 pub refill-requires : goal.refill-requires
 refill-requires g c = omega (arith, room_left _ _ _ _ _ c.loop.invariant)
