@@ -8,8 +8,7 @@ use receive::Tested;
 fn pass(head: Head, keys: &mut [u64; 128], heard: &mut [u32; 128], packets: &[u8]) -> Head {
     let mut after = head;
     for packet in packets.chunks_exact(16) {
-        let got = receive::receive(after, keys, heard, packet);
-        after.count = got.count;
+        after.count = receive::receive(after, keys, heard, packet).count;
     }
     after
 }
@@ -38,6 +37,7 @@ fn pass_valid(table: &mut Tested, packets: &[u8]) {
 }
 
 // So many passes, the table tested once; 0 if it fails the tests.
+#[tactic(auto, using(receive::proofs::Ways::passed))]
 #[unsafe(no_mangle)]
 pub extern "C" fn bench_receive_valid(
     head: Head,
