@@ -7,11 +7,10 @@ use mathlib.Core.List.{List, [], ◌∷◌, ◌++◌, append_assoc, append-nil}
 use native.Mathlib.Nat.{add-mul, mul_assoc, mul_comm, mul-le-mul_right, pow-zero, pow-suc, div-one, div-div-eq-div-mul, mul-add-div_right, div-eq_of_lt}
 use native.Mathlib.Numerals.{add-one}
 use native.Mathlib.Omega.{arith}
-use borrow.Author.Tests.{le-leb, lt-leb, lt-ltb, eq-eqb, ne_eqb, eqb-true, leb-true, leb-false}
+use borrow.Author.Tests.{le-leb, lt-leb, lt-ltb, eq-eqb, ne_eqb, eqb-true, leb-false}
 use lib.Dec.{eqb, leb}
 use lib.ListN.{length, get_or, drop, length-append, length-drop}
 use lib.Seq.{drop-cons, drop-length, drop-append_seam, get_or-append_seam, get_or-drop, drop-drop}
-use Rattle.refusals.proofs.Tests.{and_then}
 use Rattle.lines.proofs.Laws.{no_line, Passed, number_passed, line_within}
 use Rattle.lines.specs.declared.Fault.{Fault}
 use Rattle.lines.specs.declared.Fault.TheVariants.{Name, MoreText}
@@ -20,7 +19,7 @@ use Rattle.session.specs.declared.bad_line.BadLine.{BadLine}
 use Rattle.lines.specs.declared.Line.{Line}
 use Rattle.std.specs.Prelude.{Result, Ok, Err}
 use Rattle.std.specs.List.{starts_with}
-use Rattle.std.proofs.lemmas.Bool.Decides.{Decides-eqb}
+use Rattle.std.proofs.lemmas.Bool.Decides.{Decides-eqb, nat_tests}
 use Rattle.std.proofs.lemmas.Slice.Eq.{starts_is}
 use Rattle.lines.specs.declared.Line.{Line}
 use Rattle.decimal.specs.Decimal.{is_digit, digits_of, followed_by, value, no_zero_ahead}
@@ -104,10 +103,10 @@ value_cons d ds = let z : 0 * 10 + (d - 48) ≡ d - 48 = omega arith in ap (λ (
 
 module _ (b : ℕ) (h : is_digit b ≡ true) where
   at_least : 48 ≤ b
-  at_least = leb-true 48 b (and_then (leb 48 b) (leb b 57) h).0
+  at_least = grind (arith, nat_tests)
 
   at_most : b ≤ 57
-  at_most = leb-true b 57 (and_then (leb 48 b) (leb b 57) h).1
+  at_most = grind (arith, nat_tests)
 
 -- they say less than their places hold
 below_places : (l : List ℕ) → value (digits_of l) < 10 ^ length (digits_of l)
