@@ -1,29 +1,20 @@
 -- Text put at a place: a number by how many digits it has, and a range as one number or two.
-use Prim.Native.Nat.{ℕ, suc, ◌+◌, ◌/◌, ◌%◌, ◌<◌, ◌≤◌}
+use Prim.Native.Nat.{ℕ, suc, ◌+◌, ◌-◌, ◌/◌, ◌%◌, ◌<◌, ◌≤◌}
 use mathlib.Core.Path.{◌≡◌, refl, sym, ◌∙◌, ap}
 use mathlib.Core.Bool.{Bool, true, false, cond}
 use mathlib.Core.List.{List, [], ◌∷◌, ◌++◌, append_assoc}
 use native.Mathlib.Omega.{arith}
 use borrow.Author.Rules.{rules}
-use borrow.Author.Tests.{eq-eqb, ne_eqb, lt-ltb, le-ltb}
+use borrow.Author.Tests.{eq-eqb, ne_eqb}
+use borrow.Rule.Slice.PartMut.{put_mid}
 use lib.Dec.{eqb}
-use lib.ListN.{length, take, drop, length-append}
-use lib.Seq.{length-take-le, take_at}
+use lib.ListN.{length, take, drop, set, length-append, length-drop, length-set}
+use lib.Seq.{take_all}
+use Rattle.std.proofs.lemmas.List.{take_more_set}
+use Rattle.std.proofs.lemmas.Slice.{take-put_mid}
+use Rattle.decimal.specs.Decimal.{digit}
 use Rattle.code_text.specs.CodeText.{comma, dash, decimal}
-use Rattle.writer.specs.Pieces.{put_at}
-use Rattle.item_writer.specs.Items.{Puts, number_after, range_text}
-
-piece_put : (p before after : List ℕ) (at : ℕ) → at + length p ≤ length before → after ≡ put_at p at before
-    → Puts p at before (at + length p) after
-unfolding put_at
-piece_put p before after at room e =
-    let front = take at before in
-    let rest = drop (length p) (drop at before) in
-    record {
-      ends = refl;
-      so_far = ap (take (at + length p)) (e ∙ sym (append_assoc front p rest))
-          ∙ take_at (front ++ p) rest (at + length p) (omega (arith, length-append front p, length-take-le at before (omega arith)));
-    }
+use Rattle.item_writer.specs.Items.{Puts, three_digits, number_after, range_text}
 
 -- one text after another
 both_put : (p q before between after : List ℕ) (at middle end : ℕ) → Puts p at before middle between → Puts q middle between end after
@@ -35,39 +26,27 @@ both_put p q before between after at middle end x y = record {
 
 -- A NUMBER
 
-module _ (separator n at : ℕ) (before : List ℕ) (room : at + length (number_after separator n) ≤ length before) where
-  module _ (h : n < 10) where
-    pub one_digit_fits : at + 2 ≤ length before
-    unfolding decimal
-    one_digit_fits = rw (lt-ltb n 10 h) at room
+-- what is left of the three digits after the zeros ahead
+digits_left : (zeros d₂ d₁ d₀ n : ℕ) → d₂ ≡ digit (n / 100) → d₁ ≡ digit (n / 10 % 10) → d₀ ≡ digit (n % 10)
+    → drop zeros (three_digits n) ≡ decimal n → take (3 - zeros) (drop zeros (d₂ ∷ d₁ ∷ d₀ ∷ [])) ≡ decimal n
+digits_left zeros d₂ d₁ d₀ n e₂ e₁ e₀ rest =
+    let all : List ℕ = d₂ ∷ d₁ ∷ d₀ ∷ [] in
+    take_all (3 - zeros) (drop zeros all) (omega (arith, length-drop zeros all)) ∙ (rw (e₂, e₁, e₀) rest)
 
-    pub one_digit_put : (d : ℕ) (after : List ℕ) → d ≡ 48 + n → after ≡ put_at (separator ∷ d ∷ []) at before
-        → Puts (number_after separator n) at before (at + 2) after
-    unfolding decimal
-    one_digit_put d after e k = rw (lt-ltb n 10 h, ← e) (piece_put (separator ∷ d ∷ []) before after at one_digit_fits k)
-
-  module _ (l : 10 ≤ n) (h : n < 100) where
-    pub two_digits_fit : at + 3 ≤ length before
-    unfolding decimal
-    two_digits_fit = rw (le-ltb n 10 l, lt-ltb n 100 h) at room
-
-    pub two_digits_put : (d₁ d₀ : ℕ) (after : List ℕ) → d₁ ≡ 48 + n / 10 → d₀ ≡ 48 + n % 10
-        → after ≡ put_at (separator ∷ d₁ ∷ d₀ ∷ []) at before → Puts (number_after separator n) at before (at + 3) after
-    unfolding decimal
-    two_digits_put d₁ d₀ after e₁ e₀ k =
-        rw (le-ltb n 10 l, lt-ltb n 100 h, ← e₁, ← e₀) (piece_put (separator ∷ d₁ ∷ d₀ ∷ []) before after at two_digits_fit k)
-
-  module _ (h : 100 ≤ n) where
-    pub three_digits_fit : at + 4 ≤ length before
-    unfolding decimal
-    three_digits_fit = rw (le-ltb n 10 (omega arith), le-ltb n 100 h) at room
-
-    pub three_digits_put : (d₂ d₁ d₀ : ℕ) (after : List ℕ) → d₂ ≡ 48 + n / 100 → d₁ ≡ 48 + n / 10 % 10 → d₀ ≡ 48 + n % 10
-        → after ≡ put_at (separator ∷ d₂ ∷ d₁ ∷ d₀ ∷ []) at before → Puts (number_after separator n) at before (at + 4) after
-    unfolding decimal
-    three_digits_put d₂ d₁ d₀ after e₂ e₁ e₀ k =
-        rw (le-ltb n 10 (omega arith), le-ltb n 100 h, ← e₂, ← e₁, ← e₀)
-        (piece_put (separator ∷ d₂ ∷ d₁ ∷ d₀ ∷ []) before after at three_digits_fit k)
+module _ (separator n at zeros d₂ d₁ d₀ : ℕ) (e₂ : d₂ ≡ digit (n / 100)) (e₁ : d₁ ≡ digit (n / 10 % 10)) (e₀ : d₀ ≡ digit (n % 10))
+    (rest : drop zeros (three_digits n) ≡ decimal n) (before written : List ℕ)
+    (after : written ≡ take (3 - zeros) (drop zeros (d₂ ∷ d₁ ∷ d₀ ∷ []))) (room : at + length (number_after separator n) ≤ length before) where
+  pub number_put : (k : ℕ) → Puts (number_after separator n) at before (at + 1 + length (take (3 - zeros) (drop zeros (d₂ ∷ d₁ ∷ d₀ ∷ []))))
+      (put_mid (at + 1) k (set before at separator) written)
+  number_put k =
+      let digits = digits_left zeros d₂ d₁ d₀ n e₂ e₁ e₀ rest in
+      let w : written ≡ decimal n = after ∙ digits in
+      let front : take (at + 1) (set before at separator) ≡ take at before ++ separator ∷ [] = take_more_set before at separator (omega arith) in
+      rw digits (record {
+        ends = omega arith;
+        so_far = take-put_mid (at + 1) k (set before at separator) written (at + 1 + length (decimal n)) (omega (arith, ap length w)) (omega (arith, length-set before at separator))
+            ∙ rw (front, w) (append_assoc (take at before) (separator ∷ []) (decimal n));
+      })
 
 -- A RANGE
 
@@ -101,16 +80,4 @@ module _ (first last : ℕ) where
         range_put end after q =
             rw (not_alone n) (both_put (number_after comma first) (number_after dash last) before between after at middle end p q)
 
-pub ruleset writing_items = (
-  rules,
-  one_digit_fits,
-  one_digit_put,
-  two_digits_fit,
-  two_digits_put,
-  three_digits_fit,
-  three_digits_put,
-  first_fits,
-  one_code_put,
-  last_fits,
-  range_put,
-)
+pub ruleset writing_items = (rules, number_put, first_fits, one_code_put, last_fits, range_put)
