@@ -1,15 +1,13 @@
 -- Where the event at a number begins, and each way through the two calls, as laws over what a table holds.
-use Prim.Native.Nat.{ℕ, zero, suc, ◌+◌, ◌-◌, ◌≤◌, ◌<◌}
-use mathlib.Core.Path.{◌≡◌, refl, sym, ◌∙◌, ap, subst}
-use mathlib.Core.Bool.{Bool, true, false, cond}
-use mathlib.Core.List.{List, ◌∷◌}
+use Prim.Native.Nat.{ℕ, suc, ◌+◌, ◌-◌, ◌≤◌, ◌<◌}
+use mathlib.Core.Path.{◌≡◌, refl, ◌∙◌, ap}
+use mathlib.Core.Bool.{Bool, true, false}
+use mathlib.Core.List.{List}
 use native.Mathlib.Omega.{arith}
-use native.Mathlib.Decide.{dec_lt}
 use borrow.Author.Rules.{rules}
-use borrow.Author.Tests.{le-ltb, ne_eqb}
+use borrow.Author.Tests.{le-ltb, ltb-true, ltb-false, ne_eqb}
+use lib.Dec.{ltb}
 use lib.ListN.{length, get_or, drop}
-use Rattle.std.specs.Prelude.{Option, Some}
-use Rattle.std.specs.List.{filter, range_with_len, slice_get}
 use Rattle.model.specs.declared.Table.{Table}
 use Rattle.model.specs.declared.Event.{Event}
 use Rattle.refusals.specs.Refusals.{answered}
@@ -22,74 +20,48 @@ use Rattle.grouping.specs.Places.{begins, event_from, events_after}
 use Rattle.grouping.proofs.Laws.{all_after, none_after, begun, passed}
 use Rattle.events.specs.Numbers.{Finds}
 
--- WHERE AN EVENT BEGINS
+-- THE WALK TO AN EVENT
 
-module _ (keys heard : List ℕ) (n : ℕ) where
-  -- of those from place `from` on, event k begins where the option says
-  pub record Found (from k : ℕ) (o : Option ℕ) : Type 0 where
-    pub place : ℕ
-    pub is : o ≡ Some place
-    pub finds : Finds keys heard n from k place
+module _ (keys heard : List ℕ) where
+  -- event k of those from a place on begins at place i or later, and has the number `left` among those that do
+  pub record OnTheWay (n from k i left : ℕ) : Type 0 where
+    pub less : i < n
+    pub some : left < length (events_after keys heard n i)
+    pub event : get_or (events_after keys heard n i) left no_event ≡ get_or (events_after keys heard n from) k no_event
+    pub rest : drop (suc left) (events_after keys heard n i) ≡ drop (suc k) (events_after keys heard n from)
 
-  pub at_place : {from k : ℕ} {o : Option ℕ} → Found from k o → (i : ℕ) → o ≡ Some i → Finds keys heard n from k i
-  at_place {from} {k} f i e = let same : f.place ≡ i = (cc (f.is, e)) in subst (Finds keys heard n from k) same f.finds
+  module _ (n from k : ℕ) where
+    -- an event still to come begins at some place
+    walking : (i left : ℕ) → left < length (events_after keys heard n i)
+        → get_or (events_after keys heard n i) left no_event ≡ get_or (events_after keys heard n from) k no_event
+        → drop (suc left) (events_after keys heard n i) ≡ drop (suc k) (events_after keys heard n from) → OnTheWay n from k i left
+    walking i left h e d = record { less = go (ltb i n) refl; some = h; event = e; rest = d }
+      where
+        go : (b : Bool) → ltb i n ≡ b → i < n
+        go true f = ltb-true i n f
+        go false f = absurd (omega (arith, ap length (none_after keys heard n i (ltb-false i n f))))
 
-  -- m places from one on, those that begin an event
-  abbrev pub beginnings : ℕ → ℕ → List ℕ
-  beginnings from m = filter (begins keys heard) (range_with_len from m)
+    pub walk_starts : k < length (events_after keys heard n from) → OnTheWay n from k from k
+    walk_starts h = walking from k h refl refl
 
-  module _ (from : ℕ) (less : from < n) (l : List ℕ) where
-    -- if it is so of the events after this place, it is so of those from here on
-    next : (b : Bool) → b ≡ begins keys heard from
-        → ((k : ℕ) → k < length (events_after keys heard n (from + 1)) → Found (from + 1) k (slice_get l k))
-        → (k : ℕ) → k < length (events_after keys heard n from) → Found from k (slice_get (cond b (from ∷ l) l) k)
-    next true is later zero h =
-        let first = begun keys heard n from less true is refl in
-        record {
-          place = from;
-          is = refl;
-          finds = record {
-            less = less;
-            event = ap (λ (es : List Event). get_or es 0 no_event) (sym first);
-            rest = ap (drop 1) (sym first);
-          };
-        }
-    next true is later (suc k) h =
-        let first = begun keys heard n from less true is refl in
-        let r = later k (omega (arith, h, ap length first)) in
-        record {
-          place = r.place;
-          is = r.is;
-          finds = record {
-            less = r.finds.less;
-            event = r.finds.event ∙ ap (λ (es : List Event). get_or es (suc k) no_event) (sym first);
-            rest = r.finds.rest ∙ ap (drop (suc (suc k))) (sym first);
-          };
-        }
-    next false is later k h =
-        let same = passed keys heard n from less false is refl in
-        let r = later k (rw same at h) in
-        record {
-          place = r.place;
-          is = r.is;
-          finds = record {
-            less = r.finds.less;
-            event = r.finds.event ∙ ap (λ (es : List Event). get_or es k no_event) (sym same);
-            rest = r.finds.rest ∙ ap (drop (suc k)) (sym same);
-          };
-        }
+    module _ (i left : ℕ) (w : OnTheWay n from k i left) (b : Bool) (is : b ≡ begins keys heard i) where
+      pub walk_passes : b ≡ false → OnTheWay n from k (i + 1) left
+      walk_passes e =
+          let same = passed keys heard n i w.less b is e in
+          walking (i + 1) left (rw same at w.some) (rw same at w.event) (rw same at w.rest)
 
-  pub found : (m from : ℕ) → from + m ≡ n → (k : ℕ) → k < length (events_after keys heard n from) → Found from k (slice_get (beginnings from m) k)
-  found zero from e k h = absurd (omega (arith, h, ap length (none_after keys heard n from (omega arith))))
-  found (suc m) from e k h = next from (omega arith) (beginnings (from + 1) m) (begins keys heard from) refl (found m (from + 1) (omega arith)) k h
+      module _ (e : b ≡ true) where
+        pub walk_on : (left ≡ 0 → ⊥) → OnTheWay n from k (i + 1) (left - 1)
+        walk_on z =
+            let one : left ≡ suc (left - 1) = omega arith in
+            let first = begun keys heard n i w.less b is e in
+            walking (i + 1) (left - 1) (omega (arith, w.some, ap length first))
+            (rw (one, first) at w.event) (rw (one, first) at w.rest)
 
-  -- an event still to come begins before the last place
-  pub some_left : (from k : ℕ) → k < length (events_after keys heard n from) → from ≤ n
-  some_left from k h = go (dec_lt n from)
-    where
-      go : Dec (n < from) → from ≤ n
-      go (yes l) = absurd (omega (arith, h, ap length (none_after keys heard n from (omega arith))))
-      go (no l) = omega arith
+        pub walk_found : left ≡ 0 → Finds keys heard n from k i
+        walk_found z =
+            let first = begun keys heard n i w.less b is e in
+            record { less = w.less; event = rw (z, first) at w.event; rest = rw (z, first) at w.rest }
 
 -- THE EVENT AT A NUMBER
 
@@ -105,4 +77,4 @@ module _ (h : Held) (k : ℕ) where
       let e : v ≡ get_or (events t) (k - 1) no_event = is ∙ found.event ∙ ap (λ (l : List Event). get_or l (k - 1) no_event) all in
       ap answered e ∙ rw (holds.0, ne_eqb k 0 some, le-ltb (length (events t)) k (rw holds.1 at few))
 
-pub ruleset table_events = (rules, all_from_0, number_found)
+pub ruleset table_events = (rules, walk_starts, walk_passes, walk_on, walk_found, all_from_0, number_found)

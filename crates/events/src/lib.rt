@@ -29,10 +29,16 @@ pub fn event_place(held: Held, from: usize, k: usize) -> usize
     requires { k < length (events_from held from) }
     ensures { Finds held.entry.keys.now held.entry.heard.now (length held.entry.keys.now) from k result }
 {
-    (from..held.keys.len())
-        .filter(|&i| held.begins(i))
-        .nth(k)
-        .unwrap()
+    let mut left = k;
+    for place in from..held.keys.len() {
+        if held.begins(place) {
+            if left == 0 {
+                return place;
+            }
+            left -= 1;
+        }
+    }
+    unreachable!()
 }
 
 // Tells the event at number k, counted from 1 by start, then code, or refuses with 16 or 13.

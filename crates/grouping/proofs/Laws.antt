@@ -5,11 +5,11 @@ use mathlib.Core.Bool.{Bool, true, false, not, cond, ◌&&◌}
 use mathlib.Core.List.{List, [], ◌∷◌}
 use native.Mathlib.Numerals.{add-one}
 use native.Mathlib.Omega.{arith}
+use mir.Val.{bool_byte}
 use borrow.Author.Rules.{rules}
 use borrow.Author.Tests.{eq-eqb, ne_eqb, not-true, not-false}
 use lib.Dec.{eqb}
 use lib.ListN.{length, get_or, take}
-use Rattle.std.specs.List.{filter, range_with_len}
 use Rattle.std.proofs.lemmas.List.{get_or-take}
 use Rattle.model.specs.declared.Segment.{Segment}
 use Rattle.model.specs.declared.Head.{Head}
@@ -96,10 +96,6 @@ ended_none s (t ∷ ts) h = cond_same (eqb s.code t.code) (rw (ended_not s t h))
 cond_not : {A : Type 0} (b : Bool) (x y : A) → cond b x y ≡ cond (not b) y x
 cond_not true x y = refl
 cond_not false x y = refl
-
-one_more : (b : Bool) (i : ℕ) (v : Event) (is : List ℕ) (l : List Event) → length is ≡ length l → length (cond b (i ∷ is) is) ≡ length (cond b (v ∷ l) l)
-one_more true i v is l e = ap suc e
-one_more false i v is l e = e
 
 module _ (keys heard : List ℕ) where
   -- THE PLACES
@@ -270,15 +266,23 @@ module _ (keys heard : List ℕ) where
     pub passed : b ≡ false → events_after keys heard n i ≡ events_after keys heard n (i + 1)
     passed e = rw (sym is ∙ e) at (by_test n i h)
 
-  -- from place i on there are as many events as places that begin one
-  begun_after : (n i m : ℕ) → i + m ≡ n → length (filter (begins keys heard) (range_with_len i m)) ≡ length (events_after keys heard n i)
-  begun_after n i zero e = rw (none_after n i (omega arith))
-  begun_after n i (suc m) e =
-      one_more (begins keys heard i) i (event_from keys heard n i) _ _ (begun_after n (i + 1) m (omega arith))
-      ∙ ap length (sym (by_test n i (omega arith)))
+  -- `count` events begin before place i
+  pub record Counting (n i count : ℕ) : Type 0 where
+    pub few : count ≤ i
+    pub sum : count + length (events_after keys heard n i) ≡ length (events_in keys heard n)
 
-  pub begun_in : (n : ℕ) → length (filter (begins keys heard) (range_with_len 0 n)) ≡ length (events_in keys heard n)
-  begun_in n = begun_after n 0 n (omega arith) ∙ ap length (all_after n)
+  pub count_starts : (n : ℕ) → Counting n 0 0
+  count_starts n = record { few = omega arith; sum = omega (arith, ap length (all_after n)) }
+
+  module _ (n i count : ℕ) (w : Counting n i count) where
+    pub count_ends : n ≤ i → count ≡ length (events_in keys heard n)
+    count_ends h = omega (arith, w.sum, ap length (none_after n i h))
+
+    pub count_goes_on : i < n → (b : Bool) → b ≡ begins keys heard i → (m : ℕ) → m ≡ bool_byte b → Counting n (i + 1) (count + m)
+    count_goes_on less true is m e =
+        record { few = omega (arith, e, w.few); sum = omega (arith, e, w.sum, ap length (begun n i less true is refl)) }
+    count_goes_on less false is m e =
+        record { few = omega (arith, e, w.few); sum = omega (arith, e, w.sum, ap length (passed n i less false is refl)) }
 
 pub ruleset grouping = (
   rules,
@@ -292,4 +296,7 @@ pub ruleset grouping = (
   event_ended,
   event_ends,
   event_stops,
+  count_starts,
+  count_ends,
+  count_goes_on,
 )

@@ -66,7 +66,11 @@ impl<'a> Held<'a> {
     pub fn count(self) -> usize
         ensures { result ≡ length (events_of self.entry) }
     {
-        (0..self.keys.len()).filter(|&i| self.begins(i)).count()
+        let mut count = 0;
+        for i in 0..self.keys.len() {
+            count += usize::from(self.begins(i));
+        }
+        count
     }
 
     // The event that the segment at place i begins. Nothing continues a segment with E, so after one it looks no further. Of a later
