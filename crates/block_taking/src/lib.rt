@@ -5,7 +5,8 @@ ghost use Rattle.std.specs.Prelude.{◌≡◌, ◌≤◌, ◌<◌};
 ghost use Rattle.model.specs.Redundant.{entry_of};
 ghost use Rattle.block_taking.specs.Enters.{InPlace, Ready, EntersBlock, EntersOrPasses};
 
-use model::{BlockStep, Received};
+use blocks::step::Block;
+use model::Received;
 use receive::Tested;
 
 // An answer in one number.
@@ -17,24 +18,23 @@ fn entry_of(got: Received) -> u32
     got.refusal as u32 + (256 * u32::from(got.is_new) + 65536 * (got.probes as u32))
 }
 
-// Hears the block that a step found in a packet of this timestamp and marker, and enters its answer at place i. M counts on the primary
-// alone.
+// Hears a block of a packet of this timestamp and marker, and enters its answer at place i. M counts on the primary alone.
 #[tactic(auto, using(crate::proofs::Takings::taking))]
 fn take_block(
     table: &mut Tested,
     packet: &[u8],
     time: u32,
     marked: bool,
-    step: BlockStep,
+    block: Block,
     i: usize,
     entries: &mut [u32],
 )
-    requires { InPlace packet.now step i entries.old }
-    ensures { EntersBlock table.old packet.now time marked step i entries.old table.new entries.new }
+    requires { InPlace packet.now block i entries.old }
+    ensures { EntersBlock table.old packet.now time marked block i entries.old table.new entries.new }
 {
-    let BlockStep { start, end, .. } = step;
-    let own = time.wrapping_sub(u32::from(step.offset));
-    let got = table.hear(own, marked && step.primary, &packet[start..end]);
+    let Block { start, end, .. } = block;
+    let own = time.wrapping_sub(u32::from(block.offset));
+    let got = table.hear(own, marked && block.primary, &packet[start..end]);
     entries[i] = entry_of(got);
 }
 
@@ -45,16 +45,16 @@ pub fn take_or_pass(
     packet: &[u8],
     time: u32,
     marked: bool,
-    step: BlockStep,
+    block: Block,
     i: usize,
     entries: &mut [u32],
 ) -> usize
-    requires { Ready table.old packet.now step i entries.old }
-    ensures { EntersOrPasses table.old packet.now time marked step i entries.old result table.new entries.new }
+    requires { Ready table.old packet.now block i entries.old }
+    ensures { EntersOrPasses table.old packet.now time marked block i entries.old result table.new entries.new }
 {
-    if step.payload_type != table.head.payload_type {
+    if block.payload_type != table.head.payload_type {
         return i;
     }
-    take_block(table, packet, time, marked, step, i, entries);
+    take_block(table, packet, time, marked, block, i, entries);
     i + 1
 }
