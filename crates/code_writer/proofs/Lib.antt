@@ -1,7 +1,7 @@
-pub mod Rising
-pub mod Longest
-pub mod Rows
 pub mod Laws
+pub mod Longest
+pub mod Rising
+pub mod Rows
 pub mod Unique
-pub mod Upward
 pub mod Back
+pub mod Upward

@@ -2,17 +2,26 @@
 use Prim.Native.Nat.{ℕ, zero, suc, ◌+◌, ◌-◌, ◌<◌, ◌≤◌}
 use mathlib.Core.Path.{◌≡◌, refl, sym, ◌∙◌, ap}
 use mathlib.Core.Bool.{Bool, true, false, not, false≢true}
-use mathlib.Core.List.{[], ◌∷◌}
+use mathlib.Core.List.{List, [], ◌∷◌}
 use native.Mathlib.Nat.{add-zero}
 use native.Mathlib.Numerals.{add-one}
 use native.Mathlib.Omega.{arith}
 use borrow.Author.Tests.{not-true, not-false, eqb-true, eqb-false}
 use lib.Dec.{eqb}
 use Rattle.std.specs.Prelude.{Option, Some, None}
+use Rattle.std.specs.Bool.{⊤}
+use Rattle.std.specs.Fn.{CalledAt}
+use Rattle.std.specs.Iterator.{YieldsThen}
+use Rattle.std.specs.List.{FoldsTo}
 use Rattle.std.specs.Option.{MatchOption, unwrap_or}
+use Rattle.std.proofs.iter.Yields.{nat_range_steps}
+use Rattle.std.proofs.lemmas.Iterator.{first_from_Range}
+use denote.Param.Members.{Mut}
+use denote.Ref.{Bor}
 use Rattle.model.specs.declared.Codes.{Codes}
 use Rattle.model.specs.Codes.{is_in, among}
-use Rattle.code_ranges.specs.declared.Range.{Range}
+use Rattle.std.specs.declared.ops.Range.{Range}
+use Rattle.code_ranges.specs.declared.Range as code
 use Rattle.code_writer.specs.CodesWritten.{with_code, ranges}
 use Rattle.item_writer.specs.Items.{range}
 use Rattle.code_writer.specs.Steps.{ranges_from, Next}
@@ -44,6 +53,15 @@ abbrev pub First : (ℕ → Bool) → ℕ → Option ℕ → Type 0
 First test from found =
     MatchOption found ((k : ℕ) → from ≤ k → k < 256 → test k ≡ false)
     (λ c. (from ≤ c) × (c < 256) × (test c ≡ true) × ((k : ℕ) → from ≤ k → k < c → test k ≡ false))
+
+-- what `find` ensures, where its closure computes the test
+pub first_found : {F : Type 0} {g : Mut F (Bor ℕ × Unit {0}) Bool} (test : ℕ → Bool) (from : ℕ) (u : Range ℕ) (f : F) (found : Option ℕ)
+    → (xs : List ℕ) × (j : F) × YieldsThen nat_range_steps (record { start = from; end = 256 }) xs found u
+    × FoldsTo (λ p x q. CalledAt g p x false q) f xs j × MatchOption found ⊤ (λ x. (h : F) × CalledAt g j x true h)
+    → ((x : ℕ) (b : Bool) (q : F) → CalledAt g f x b q → (q ≡ f) × (b ≡ test x)) → First test from found
+first_found test from u f found ran computes =
+    first_from_Range (record { start = from; end = 256 }) u f found (λ k. test k ≡ true) (λ k. test k ≡ false) ran
+    (λ x q k. sym (computes x true q k).1) (λ x q k. ((computes x false q k).0, sym (computes x false q k).1))
 
 module _ (s : Codes) where
   -- codes that are not in the set are passed over
@@ -120,7 +138,7 @@ module _ (s : Codes) where
         pub within_256 : end ≤ 256
         within_256 = there.within
 
-        pub range_found : (r : Range) → r.first ≡ first → r.last ≡ end - 1 → Next s from (Some r)
+        pub range_found : (r : code.Range) → r.first ≡ first → r.last ≡ end - 1 → Next s from (Some r)
         range_found r is_first is_last =
             let w = there in
             let last : first + (end - 1 - first) ≡ end - 1 = omega (arith, w.after) in

@@ -13,7 +13,7 @@ use item_writer::put_range;
 use model::Codes;
 use refusals::Refusal;
 
-// The longest range of the set's codes that begins first, of those from a code on.
+// The first range of the set's codes from a code on, as long as it goes.
 fn next_range(codes: Codes, from: u32) -> Option<Range>
     requires { from ≤ 256 }
     ensures { Next codes from result }
