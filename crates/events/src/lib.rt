@@ -24,21 +24,22 @@ fn held<'a>(head: Head, keys: &'a [u64; 128], heard: &'a [u32; 128]) -> Result<H
 }
 
 // The place where event k begins, counted from 0 among those that begin at the place `from` or later. Whoever goes on after it finds
-// the later ones.
+// the later ones. It tests for no last place, since that event is still to come.
 pub fn event_place(held: Held, from: usize, k: usize) -> usize
     requires { k < length (events_from held from) }
     ensures { Finds held.entry.keys.now held.entry.heard.now (length held.entry.keys.now) from k result }
 {
     let mut left = k;
-    for place in from..held.keys.len() {
+    let mut place = from;
+    loop {
         if held.begins(place) {
             if left == 0 {
                 return place;
             }
             left -= 1;
         }
+        place += 1;
     }
-    unreachable!()
 }
 
 // Tells the event at number k, counted from 1 by start, then code, or refuses with 16 or 13.
