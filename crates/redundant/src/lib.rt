@@ -69,16 +69,15 @@ pub fn receive_redundant(
     if !valid::is_valid(head, keys, heard) {
         return refused_whole(Refusal::InvalidTable, head.count);
     }
-    match locate(head, packet, entries.len()) {
-        Ok(located) => {
-            let mut table = Tested { head, keys, heard };
-            let blocks = take_blocks(&mut table, packet, located, entries);
-            BlocksReceived {
-                blocks,
-                count: table.head.count,
-                refusal: 0,
-            }
-        }
-        Err(refusal) => refused_whole(refusal, head.count),
+    let located = match locate(head, packet, entries.len()) {
+        Ok(located) => located,
+        Err(refusal) => return refused_whole(refusal, head.count),
+    };
+    let mut table = Tested { head, keys, heard };
+    let blocks = take_blocks(&mut table, packet, located, entries);
+    BlocksReceived {
+        blocks,
+        count: table.head.count,
+        refusal: 0,
     }
 }
