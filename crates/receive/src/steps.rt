@@ -37,6 +37,7 @@ pub(crate) fn header_for(head: Head, packet: &[u8]) -> Result<Place, Refusal>
 
 // Hears a packet: 1 to 6, then 17 or 7, and 8 to 10.
 #[tactic(auto, using(crate::proofs::Stepwise::steps))]
+#[inline(always)]
 pub(crate) fn hear_packet(head: Head, packet: &[u8]) -> Result<Heard, Refusal>
     ensures { told nothing_heard result ≡ hearing_in head packet.now }
 {
