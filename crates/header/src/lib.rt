@@ -63,12 +63,12 @@ fn end_of(s: &[u8], start: usize) -> Result<usize, Refusal>
 impl<'a> Header<'a> {
     ghost use Rattle.std.specs.Prelude.{take, drop};
     ghost use Rattle.model.specs.Packet.{marker, payload_type, sequence, timestamp, ssrc, payload};
-    ghost use Rattle.header.specs.Reads.{Reads};
+    ghost use Rattle.header.specs.Reads.{ReadsUnless};
 
     // Reads a packet's header as far as its payload's place: refusals 1 to 4.
     #[tactic(auto, using(crate::proofs::Laws::heading))]
     pub fn read(packet: &'a [u8]) -> Result<Self, Refusal>
-        ensures { Reads packet.entry result }
+        ensures { ReadsUnless (header_refusal packet.now) packet.entry result }
     {
         let len = packet.len();
         if len < 12 {

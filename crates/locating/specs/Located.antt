@@ -7,9 +7,7 @@ use Rattle.refusals.specs.Refusals.{Told, telling, answered}
 use Rattle.model.specs.Packet.{after_header, payload}
 use Rattle.model.specs.Blocks.{last_header}
 use Rattle.model.specs.Walk.{cursor, payload_ends, primary_step, block_step}
-use Rattle.model.specs.Redundant.{is_plain, refusal_for_both, refusal_of_both}
-use Rattle.header.specs.declared.Place.{Place}
-use Rattle.header.specs.Stage.{no_place, payload_end}
+use Rattle.model.specs.Redundant.{is_plain, refusal_of_both}
 use Rattle.locating.specs.declared.Located.{Located}
 use Rattle.locating.specs.declared.Located.TheVariants as located
 
@@ -17,11 +15,7 @@ use Rattle.locating.specs.declared.Located.TheVariants as located
 abbrev pub is_for : ℕ → ℕ → ℕ → ℕ → Bool
 is_for type both redundant kind = eqb kind type || (not (eqb both 0) && eqb kind redundant)
 
--- 1 to 6
-unfoldable pub header_for_both : Head → List ℕ → Told Place
-header_for_both h bs = telling (refusal_for_both h bs) no_place (record { start = after_header bs; end = payload_end bs })
-
--- then 18, 19 and 15
+-- 1 to 6, then 18, 19 and 15
 
 abbrev pub nowhere : Located
 nowhere = located.Redundant (cursor 0 0 0)

@@ -12,10 +12,10 @@ pub returns-in_err-scanned : goal.returns-in_err-scanned
 returns-in_err-scanned c =
     let h = c.in_ok-header.header in
     let e = err_from_is_err_and c.from_residual-in_err-scanned.result c.from_residual-in_err-scanned.ensures.1 in
-    rw (e.1, e.2, ← c.in_ok-header.ensures) (not_carried h.packet.now h.unrefused h.start h.end h.starts h.ends _ c.in_err-scanned.ensures)
+    rw (e.1, e.2, ← c.in_ok-header.ensures.same_packet) (not_carried h.packet.now h.unrefused h.start h.end h.starts h.ends _ c.in_err-scanned.ensures)
 
 pub returns : goal.returns
 returns c =
     let h = c.in_ok-header.header in
-    rw (← c.in_ok-header.ensures)
+    rw (← c.in_ok-header.ensures.same_packet)
     (started h.packet.now h.unrefused h.start h.end h.starts h.ends c.in_ok-scanned.scanned c.in_ok-scanned.ensures)
