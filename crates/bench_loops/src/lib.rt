@@ -1,19 +1,14 @@
 // Loops that the benchmarks time: the two receiving calls as a Rattle program makes them, on packets of 16 bytes.
 #![tactic(auto)]
 
-ghost use Rattle.std.specs.Prelude.{◌≡◌, true};
-ghost use Rattle.model.specs.Table.{table_of, valid};
-
 use model::Head;
+use receive::Tested;
 
 // One pass over a buffer of packets, the table tested for each; answers the head after it.
 fn pass(head: Head, keys: &mut [u64; 128], heard: &mut [u32; 128], packets: &[u8]) -> Head {
     let mut after = head;
-    let mut at = 0usize;
-    while 16 <= packets.len() - at {
-        let got = receive::receive(after, keys, heard, &packets[at..at + 16]);
-        after.count = got.count;
-        at += 16;
+    for packet in packets.chunks_exact(16) {
+        after.count = receive::receive(after, keys, heard, packet).count;
     }
     after
 }
@@ -28,30 +23,21 @@ pub extern "C" fn bench_receive(
     passes: u32,
 ) -> usize {
     let mut after = head;
-    let mut k = passes;
-    while 0 < k {
+    for _ in 0..passes {
         after = pass(after, keys, heard, packets);
-        k -= 1;
     }
     after.count
 }
 
 // One pass over a buffer of packets, into a table that passes the tests.
-fn pass_valid(head: Head, keys: &mut [u64; 128], heard: &mut [u32; 128], packets: &[u8]) -> Head
-    requires { valid (table_of head keys.old heard.old) ≡ true }
-    ensures { valid (table_of result keys.new heard.new) ≡ true }
-{
-    let mut after = head;
-    let mut at = 0usize;
-    while 16 <= packets.len() - at {
-        let got = receive::receive_valid(after, keys, heard, &packets[at..at + 16]);
-        after.count = got.count;
-        at += 16;
+fn pass_valid(table: &mut Tested, packets: &[u8]) {
+    for packet in packets.chunks_exact(16) {
+        table.receive(packet);
     }
-    after
 }
 
 // So many passes, the table tested once; 0 if it fails the tests.
+#[tactic(auto, using(receive::proofs::Ways::passed))]
 #[unsafe(no_mangle)]
 pub extern "C" fn bench_receive_valid(
     head: Head,
@@ -63,11 +49,9 @@ pub extern "C" fn bench_receive_valid(
     if !valid::is_valid(head, keys, heard) {
         return 0;
     }
-    let mut after = head;
-    let mut k = passes;
-    while 0 < k {
-        after = pass_valid(after, keys, heard, packets);
-        k -= 1;
+    let mut table = Tested { head, keys, heard };
+    for _ in 0..passes {
+        pass_valid(&mut table, packets);
     }
-    after.count
+    table.head.count
 }

@@ -5,7 +5,7 @@ use mathlib.Core.Bool.{Bool, true, false, cond}
 use mathlib.Core.List.{List, [], ◌∷◌}
 use native.Mathlib.Omega.{arith}
 use borrow.Author.Rules.{rules}
-use borrow.Author.Tests.{le-leb, lt-leb, lt-ltb, eq-eqb, eqb-true}
+use borrow.Author.Tests.{le-leb, lt-leb, lt-ltb}
 use lib.Dec.{eqb}
 use lib.ListN.{length, drop, length-drop}
 use lib.Seq.{get_or-drop}
@@ -31,9 +31,12 @@ use Rattle.model.specs.Redundant.{of_type}
 use Rattle.theorems.proofs.Blocks.{older_none, older_more, last_none, last_more, primary_more, Unrefused, unrefused_if}
 use Rattle.theorems.proofs.Walks.{drop_part, length_part, byte_part}
 use Rattle.block_fields.specs.Fields.{length_at}
+use Rattle.header.proofs.Laws.{starts_before_end, ends_within}
 use Rattle.block_headers.specs.declared.SoFar.{SoFar}
 use Rattle.block_headers.specs.declared.Scanned.{Scanned}
-use Rattle.block_headers.specs.Headers.{none_yet, one_more, Room, scanned_as, refused_scan, scan_in, scan_of}
+use Rattle.block_headers.specs.Headers.{none_yet, one_more, Room, scanned_as, nothing_scanned, scan_in, scan_of}
+use Rattle.refusals.specs.Refusals.{answered, refused_by}
+use Rattle.refusals.proofs.Told.{given, refused}
 
 -- COUNTING
 
@@ -66,41 +69,39 @@ count_blocks type last (h ∷ hs) d =
 -- EACH ANSWER
 
 module _ (p : List ℕ) (start type : ℕ) where
-  scan_18 : length p ≤ last_header p → refused_scan 18 ≡ scan_in p start type
+  scan_18 : length p ≤ last_header p → refused_by 18 nothing_scanned ≡ scan_in p start type
   unfolding scan_in blocks_refusal
   scan_18 h = rw (le-leb (length p) (last_header p) h)
 
-  scan_19 : last_header p < length p → length (block_data p) < lengths (older p) → refused_scan 19 ≡ scan_in p start type
+  scan_19 : last_header p < length p → length (block_data p) < lengths (older p) → refused_by 19 nothing_scanned ≡ scan_in p start type
   unfolding scan_in blocks_refusal
   scan_19 h k = rw (lt-leb (length p) (last_header p) h, lt-ltb (length (block_data p)) (lengths (older p)) k)
 
   scan_none : Unrefused p → (n : ℕ) → n ≡ headers_of_type type (older p) + bit (eqb (primary_type p) type)
-      → record { body = start + last_header p + 1; of_type = n; refusal = 0 } ≡ scan_in p start type
+      → answered (record { body = start + last_header p + 1; of_type = n }) ≡ scan_in p start type
   unfolding scan_in blocks
   scan_none u n e = rw (e, unrefused_if p u, count_blocks type (primary_type p) (older p) (block_data p))
 
 -- WHAT AN ANSWER SAYS
 
-module _ (p : List ℕ) (start type : ℕ) (x : Scanned) (is : x ≡ scan_in p start type) where
-  pub says_refusal : x.refusal ≡ blocks_refusal p
+module _ (p : List ℕ) (start type : ℕ) where
+  pub says_refusal : (k : ℕ) → refused_by k nothing_scanned ≡ scan_in p start type → (k ≡ blocks_refusal p) × (eqb (blocks_refusal p) 0 ≡ false)
   unfolding scan_in
-  says_refusal = ap (λ (y : Scanned). y.refusal) is ∙ go (eqb (blocks_refusal p) 0) refl
-    where
-      go : (b : Bool) → eqb (blocks_refusal p) 0 ≡ b
-          → (cond {A = Scanned} b (scanned_as p start type) (refused_scan (blocks_refusal p))).refusal ≡ blocks_refusal p
-      go true q = sym (eqb-true (blocks_refusal p) 0 q)
-      go false q = refl
+  says_refusal = refused (blocks_refusal p) nothing_scanned (scanned_as p start type)
 
-  module _ (none : x.refusal ≡ 0) where
-    says_all : x ≡ scanned_as p start type
+  module _ (x : Scanned) (is : answered x ≡ scan_in p start type) where
+    says_all : (blocks_refusal p ≡ 0) × (x ≡ scanned_as p start type)
     unfolding scan_in
-    says_all = is ∙ rw (eq-eqb (blocks_refusal p) 0 (sym says_refusal ∙ none))
+    says_all = given (blocks_refusal p) nothing_scanned (scanned_as p start type) x is
+
+    pub says_none : blocks_refusal p ≡ 0
+    says_none = says_all.0
 
     pub says_body : x.body ≡ start + last_header p + 1
-    says_body = ap (λ (y : Scanned). y.body) says_all
+    says_body = ap (λ (y : Scanned). y.body) says_all.1
 
     pub says_count : x.of_type ≡ length (of_type type (blocks p))
-    says_count = ap (λ (y : Scanned). y.of_type) says_all
+    says_count = ap (λ (y : Scanned). y.of_type) says_all.1
 
 -- HEADER BY HEADER
 -- Together with what the headers from `at` on say, what was read so far comes to what all say. The total stops at `end`, which is
@@ -142,8 +143,8 @@ module _ (bs : List ℕ) (start end type : ℕ) (t : SoFar) (w : Reading bs star
   long : length payload ≡ end - start
   long = length_part bs start end w.inside
 
-  pub run_out : end ≤ t.at → (r : Scanned) → r ≡ refused_scan 18 → r ≡ scan_of bs start end type
-  run_out h r e = e ∙ scan_18 payload start type (omega (arith, w.last, long))
+  pub run_out : end ≤ t.at → refused_by 18 nothing_scanned ≡ scan_of bs start end type
+  run_out h = scan_18 payload start type (omega (arith, w.last, long))
 
   module _ (here : t.at < end) where
     first : byte bs t.at ≡ byte left 0
@@ -162,13 +163,13 @@ module _ (bs : List ℕ) (start end type : ℕ) (t : SoFar) (w : Reading bs star
       unfolding lengths
       sum_here = w.sum ∙ rw (older_none left ends) (omega (arith, w.capped))
 
-      pub too_long : end - t.at - 1 < t.total → (r : Scanned) → r ≡ refused_scan 19 → r ≡ scan_of bs start end type
-      too_long h r e =
-          e ∙ scan_19 payload start type (omega (arith, last_here, long))
+      pub too_long : end - t.at - 1 < t.total → refused_by 19 nothing_scanned ≡ scan_of bs start end type
+      too_long h =
+          scan_19 payload start type (omega (arith, last_here, long))
           (omega (arith, last_here, long, sum_here, length-drop (last_header payload + 1) payload))
 
       pub all_scanned : t.total ≤ end - t.at - 1 → (n : ℕ) → n ≡ t.of_type + bit (eqb (byte bs t.at) type)
-          → record { body = t.at + 1; of_type = n; refusal = 0 } ≡ scan_of bs start end type
+          → answered (record { body = t.at + 1; of_type = n }) ≡ scan_of bs start end type
       unfolding headers_of_type
       all_scanned h n e =
           let u : Unrefused payload = record {
@@ -177,15 +178,15 @@ module _ (bs : List ℕ) (start end type : ℕ) (t : SoFar) (w : Reading bs star
           } in
           let types : primary_type payload ≡ byte bs t.at = w.primary ∙ rw (last_none left ends) (sym first) in
           let before : headers_of_type type (older payload) ≡ t.of_type = w.counted ∙ rw (older_none left ends) (omega arith) in
-          ap (λ (m : ℕ). record { body = m + 1; of_type = n; refusal = 0 }) (sym last_here)
+          ap (λ (m : ℕ). answered (record { body = m + 1; of_type = n })) (sym last_here)
           ∙ scan_none payload start type u n (rw (types, before) e)
 
     module _ (high : 128 ≤ byte bs t.at) where
       goes_on : another left ≡ true
       goes_on = le-leb 128 (byte left 0) (omega (arith, first))
 
-      pub cut_header : end - t.at < 4 → (r : Scanned) → r ≡ refused_scan 18 → r ≡ scan_of bs start end type
-      cut_header h r e = e ∙ scan_18 payload start type (omega (arith, w.last, long, last_more left goes_on))
+      pub cut_header : end - t.at < 4 → refused_by 18 nothing_scanned ≡ scan_of bs start end type
+      cut_header h = scan_18 payload start type (omega (arith, w.last, long, last_more left goes_on))
 
       module _ (whole : 4 ≤ end - t.at) where
         pub room_for_one : Room bs end t
@@ -220,14 +221,10 @@ module _ (bs : List ℕ) (start end type : ℕ) (t : SoFar) (w : Reading bs star
         pub fewer_left : (t' : SoFar) → t' ≡ one_more bs end type t → end - t'.at < end - t.at
         fewer_left t' e = let u : t'.at ≡ t.at + 4 = λ i. (e i).at in omega (arith, u)
 
--- one header's numbers put together
-pub all_counted : (bs : List ℕ) (end type : ℕ) (t : SoFar) (l sum count : ℕ) → l ≡ length_at bs t.at → sum ≡ min (t.total + l) end
-    → count ≡ t.of_type + bit (eqb (byte bs t.at % 128) type)
-    → record { at = t.at + 4; total = sum; of_type = count } ≡ one_more bs end type t
-all_counted bs end type t l sum count is_l is_sum is_count = rw (is_sum, is_l, is_count)
-
 pub ruleset scanning = (
   rules,
+  starts_before_end,
+  ends_within,
   starts,
   run_out,
   too_long,
@@ -236,5 +233,4 @@ pub ruleset scanning = (
   room_for_one,
   one_more_header,
   fewer_left,
-  all_counted,
 )

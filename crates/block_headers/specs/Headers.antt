@@ -1,6 +1,6 @@
 -- What the block headers of a payload say, where the payload stands in a packet.
-use Rattle.std.specs.Prelude.{ℕ, ◌+◌, ◌%◌, ◌≤◌, min, cond, List, eqb, length}
-use Rattle.refusals.specs.Refusals.{none}
+use Rattle.std.specs.Prelude.{ℕ, ◌+◌, ◌%◌, ◌≤◌, min, List, eqb, length}
+use Rattle.refusals.specs.Refusals.{Told, telling}
 use Rattle.model.specs.Packet.{byte, bit}
 use Rattle.model.specs.Blocks.{last_header, blocks_refusal, blocks}
 use Rattle.model.specs.Walk.{part_of}
@@ -31,15 +31,15 @@ pub record Room (bs : List ℕ) (end : ℕ) (t : SoFar) : Type 0 where
 
 -- ALL OF THEM
 
-abbrev pub refused_scan : ℕ → Scanned
-refused_scan n = record { body = 0; of_type = 0; refusal = n }
+abbrev pub nothing_scanned : Scanned
+nothing_scanned = record { body = 0; of_type = 0 }
 
 -- of a payload p that starts at a place
 abbrev pub scanned_as : List ℕ → ℕ → ℕ → Scanned
-scanned_as p start type = record { body = start + last_header p + 1; of_type = length (of_type type (blocks p)); refusal = none }
+scanned_as p start type = record { body = start + last_header p + 1; of_type = length (of_type type (blocks p)) }
 
-unfoldable pub scan_in : List ℕ → ℕ → ℕ → Scanned
-scan_in p start type = cond (eqb (blocks_refusal p) none) (scanned_as p start type) (refused_scan (blocks_refusal p))
+unfoldable pub scan_in : List ℕ → ℕ → ℕ → Told Scanned
+scan_in p start type = telling (blocks_refusal p) nothing_scanned (scanned_as p start type)
 
-abbrev pub scan_of : List ℕ → ℕ → ℕ → ℕ → Scanned
+abbrev pub scan_of : List ℕ → ℕ → ℕ → ℕ → Told Scanned
 scan_of bs start end type = scan_in (part_of bs start end) start type

@@ -1,8 +1,8 @@
 -- The pieces of a redundant packet, put into the output.
-use Prim.Native.Nat.{ℕ, ◌+◌, ◌*◌, ◌/◌, ◌%◌, ◌≤◌}
+use Prim.Native.Nat.{ℕ, ◌+◌, ◌*◌, ◌≤◌}
 use mathlib.Core.Path.{◌≡◌, refl, ◌∙◌}
-use mathlib.Core.Bool.{true, false}
-use mathlib.Core.List.{List, [], ◌∷◌}
+use mathlib.Core.Bool.{false}
+use mathlib.Core.List.{List}
 use native.Mathlib.Omega.{arith}
 use borrow.Author.Rules.{rules}
 use lib.ListN.{length, set, length-set}
@@ -10,15 +10,10 @@ use Rattle.model.specs.declared.Report.{Report}
 use Rattle.model.specs.declared.OlderReport.{OlderReport}
 use Rattle.model.specs.Packet.{bit, header_bytes, payload_bytes}
 use Rattle.model.specs.Blocks.{header_of}
-use Rattle.model.specs.WriteRedundant.{offset_before, older_written}
+use Rattle.model.proofs.Minus.{wrapped}
+use Rattle.model.specs.WriteRedundant.{older_written}
 use Rattle.writer.specs.Pieces.{put_at}
 use Rattle.block_pieces.specs.Pieces.{older_put, ends_put}
-
-pub older_header_bytes : (r : Report) (o : OlderReport) (n marked top low high last : ℕ)
-    → n ≡ offset_before r o → marked ≡ bit true * 128 + r.payload_type
-    → top ≡ (n * 1024 + 4) / 65536 → low ≡ (n * 1024 + 4) % 65536 → high ≡ low / 256 % 256 → last ≡ low % 256
-    → marked ∷ top ∷ high ∷ last ∷ [] ≡ header_of (older_written r o)
-older_header_bytes r o n marked top low high last a b c d e f = rw (b, c, e, f, d, a)
 
 pub older_put_lem : (r : Report) (o : OlderReport) (i n : ℕ) (h before one after : List ℕ)
     → h ≡ header_of (older_written r o) → one ≡ put_at h (12 + 4 * i) before
@@ -45,4 +40,4 @@ pub length_stays : (before l after : List ℕ) (i x : ℕ) → length l ≡ leng
     → length after ≡ length before
 length_stays before l after i x a b = b ∙ length-set l i x ∙ a
 
-pub ruleset putting = (rules, older_header_bytes, older_put_lem, ends_put_lem, room_stays, length_stays)
+pub ruleset putting = (rules, wrapped, older_put_lem, ends_put_lem, room_stays, length_stays)

@@ -7,25 +7,21 @@ ghost use Rattle.model.specs.WriteRedundant.{older_written};
 ghost use Rattle.block_pieces.specs.Pieces.{OlderAsked, EndsAsked, ends_put, older_put};
 
 use model::{OlderReport, Report};
-use numbers::minus;
-use writer::{flagged, lower, lower_half, put, put_header, put_payload, upper, upper_half};
+use writer::{flagged, put, put_header, put_payload};
 
 // The 4 bytes of an older block's header: F set, the payload type, the offset in 14 bits, and the length 4 in 10.
+#[tactic(auto, using(crate::proofs::Puts::putting))]
 fn older_header(r: Report, o: OlderReport) -> [u8; 4]
     requires { OlderAsked r o }
     ensures { result ≡ header_of (older_written r o) }
 {
-    let x = minus(r.timestamp, o.timestamp) * 1024 + 4;
-    let low = lower_half(x);
-    [
-        flagged(true, r.payload_type),
-        upper_half(x) as u8,
-        upper(low),
-        lower(low),
-    ]
+    let x = r.timestamp.wrapping_sub(o.timestamp) * 1024 + 4;
+    let [_, top, high, low] = x.to_be_bytes();
+    [flagged(true, r.payload_type), top, high, low]
 }
 
 // Puts the header and the data of older block i of n.
+#[tactic(auto, using(crate::proofs::Puts::putting))]
 pub fn put_older(r: Report, o: OlderReport, i: usize, n: usize, out: &mut [u8])
     requires older_asked { OlderAsked r o }
     requires i_lt_n { i < n }
@@ -46,6 +42,7 @@ pub fn put_older(r: Report, o: OlderReport, i: usize, n: usize, out: &mut [u8])
 }
 
 // Puts the packet's header, and the header, F clear, and the data of its last block, the primary.
+#[tactic(auto, using(crate::proofs::Puts::putting))]
 pub fn put_ends(r: Report, redundant_type: u32, n: usize, out: &mut [u8])
     requires ends_asked { EndsAsked r redundant_type }
     requires n_bound { n ≤ 2 }

@@ -7,42 +7,29 @@ ghost use Rattle.model.specs.WriteRedundant.{older_given, older_in_range, all_ol
 
 use codes::contains;
 use model::{Codes, OlderReport, Report};
-use numbers::minus;
 use writer::in_range;
 
 // Whether both payload types are up to 127 and differ.
 fn types_differ(payload_type: u32, redundant_type: u32) -> bool
     ensures { result ≡ types_differ payload_type redundant_type }
 {
-    if 127 < payload_type {
-        return false;
-    }
-    if 127 < redundant_type {
-        return false;
-    }
-    payload_type != redundant_type
+    payload_type <= 127 && redundant_type <= 127 && payload_type != redundant_type
 }
 
 // Whether an older report's numbers are in the ranges of refusal 12, its code in the set, and its offset in 14 bits.
+#[tactic(auto, using(model::proofs::Minus::wrapped))]
 fn older_in_range(codes: Codes, r: Report, o: OlderReport) -> bool
     ensures { result ≡ older_in_range codes r o }
 {
-    if !contains(codes, o.code) {
-        return false;
-    }
-    if 63 < o.volume {
-        return false;
-    }
-    if o.duration < 1 {
-        return false;
-    }
-    if 65535 < o.duration {
-        return false;
-    }
-    minus(r.timestamp, o.timestamp) <= 16383
+    contains(codes, o.code)
+        && o.volume <= 63
+        && 1 <= o.duration
+        && o.duration <= 65535
+        && r.timestamp.wrapping_sub(o.timestamp) <= 16383
 }
 
 // Whether those that are counted are; the others are not looked at.
+#[tactic(auto, unfolding(model::specs::WriteRedundant::all_older_in_range))]
 fn all_older_in_range(
     codes: Codes,
     r: Report,
@@ -52,16 +39,11 @@ fn all_older_in_range(
 ) -> bool
     ensures { result ≡ all_older_in_range codes r (older_given count first second) }
 {
-    if count < 1 {
-        return true;
+    match count {
+        0 => true,
+        1 => older_in_range(codes, r, first),
+        _ => older_in_range(codes, r, first) && older_in_range(codes, r, second),
     }
-    if !older_in_range(codes, r, first) {
-        return false;
-    }
-    if count < 2 {
-        return true;
-    }
-    older_in_range(codes, r, second)
 }
 
 // Whether nothing is refused with 12.
@@ -75,14 +57,8 @@ pub fn redundant_in_range(
 ) -> bool
     ensures { result ≡ redundant_in_range codes r redundant_type count first second }
 {
-    if !in_range(codes, r) {
-        return false;
-    }
-    if !types_differ(r.payload_type, redundant_type) {
-        return false;
-    }
-    if 2 < count {
-        return false;
-    }
-    all_older_in_range(codes, r, count, first, second)
+    in_range(codes, r)
+        && types_differ(r.payload_type, redundant_type)
+        && count <= 2
+        && all_older_in_range(codes, r, count, first, second)
 }

@@ -2,16 +2,18 @@
 #![tactic(auto)]
 
 ghost use Rattle.std.specs.Prelude.{◌≡◌, ◌+◌, ◌*◌, ◌≤◌, length};
-ghost use Rattle.model.specs.Answers.{told_write};
+ghost use Rattle.refusals.specs.Refusals.{told};
 ghost use Rattle.model.specs.Table.{place};
 ghost use Rattle.model.specs.WriteRedundant.{older_given, redundant_packet_of, write_redundant};
 ghost use Rattle.block_pieces.specs.Pieces.{BlocksAsked};
 
 use block_pieces::{put_ends, put_older};
 use block_ranges::redundant_in_range;
-use model::{Codes, OlderReport, Report, WriteAnswer};
+use model::{Codes, OlderReport, Report};
+use refusals::Refusal;
 
 // Puts the whole packet.
+#[tactic(auto, using(crate::proofs::WritesBlocks::writing_blocks))]
 fn put_blocks(
     r: Report,
     redundant_type: u32,
@@ -38,6 +40,7 @@ fn put_blocks(
 
 // Writes a report and the older ones that are counted, in the order given and before it, as one redundant packet at the start of the
 // output, or refuses with 12, also for a code outside the set, or 14, and leaves the output as it is.
+#[tactic(auto, using(crate::proofs::WritesBlocks::writing_blocks))]
 pub fn write_redundant(
     codes: Codes,
     r: Report,
@@ -46,16 +49,16 @@ pub fn write_redundant(
     first: OlderReport,
     second: OlderReport,
     out: &mut [u8],
-) -> WriteAnswer
-    ensures result_value { told_write result ≡ (write_redundant codes r redundant_type count first second out.old).answer }
+) -> Result<(), Refusal>
+    ensures result_value { told tt result ≡ (write_redundant codes r redundant_type count first second out.old).answer }
     ensures out_after { out.new ≡ (write_redundant codes r redundant_type count first second out.old).output }
 {
     if !redundant_in_range(codes, r, redundant_type, count, first, second) {
-        return WriteAnswer::Refused(refusals::OUT_OF_RANGE);
+        return Err(Refusal::OutOfRange);
     }
     if out.len() < 17 + 8 * (count as usize) {
-        return WriteAnswer::Refused(refusals::OUTPUT_TOO_SMALL);
+        return Err(Refusal::OutputTooSmall);
     }
     put_blocks(r, redundant_type, count, first, second, out);
-    WriteAnswer::Written
+    Ok(())
 }

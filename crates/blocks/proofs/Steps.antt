@@ -5,56 +5,58 @@ use mathlib.Core.Bool.{Bool, true, false, cond}
 use mathlib.Core.List.{List}
 use native.Mathlib.Omega.{arith}
 use borrow.Author.Rules.{rules}
-use borrow.Author.Tests.{le-leb, lt-leb, lt-ltb, ne_eqb}
-use lib.Dec.{eqb}
+use borrow.Author.Tests.{le-leb, lt-leb, lt-ltb}
 use lib.ListN.{length}
 use lib.Seq.{get_or-drop}
 use Rattle.model.specs.declared.Cursor.{Cursor}
-use Rattle.model.specs.declared.WalkStart.{WalkStart}
 use Rattle.model.specs.declared.BlockStep.{BlockStep}
-use Rattle.model.specs.Packet.{byte, after_header, payload, header_refusal}
+use Rattle.model.specs.Packet.{byte, after_header, header_refusal, payload}
 use Rattle.model.specs.Blocks.{another, block_header, last_header, blocks_refusal}
 use Rattle.model.specs.Walk.{cursor, payload_ends, walk_refusal, walk_start, no_block, from_header, primary_step, block_step, header_step, part_of}
 use Rattle.theorems.proofs.Walks.{no_header, last_step, older_step_lem, length_said, length_part}
-use Rattle.header.specs.declared.Header.{Header}
-use Rattle.header.specs.declared.Header.TheVariants as header
-use Rattle.header.specs.Stage.{header_of, refusal_of_header}
-use Rattle.header.proofs.Laws.{refused_says, found_says, starts_before_end, ends_within, payload_there}
+use Rattle.std.specs.Prelude.{Some}
+use Rattle.refusals.specs.Refusals.{none, answered, refused_by}
+use Rattle.model.specs.Answers.{no_cursor}
+use Rattle.header.specs.Reads.{Refuses}
+use Rattle.header.specs.Stage.{payload_end}
+use Rattle.header.proofs.Laws.{starts_before_end, ends_within, payload_there}
 use Rattle.block_headers.specs.declared.Scanned.{Scanned}
 use Rattle.block_fields.specs.Fields.{offset_at, length_at}
-use Rattle.block_headers.specs.Headers.{scan_in, scan_of}
-use Rattle.blocks.specs.Start.{Short, refused_start}
-use Rattle.block_headers.proofs.Scanning.{says_refusal, says_body}
+use Rattle.block_headers.specs.Headers.{nothing_scanned, scan_in, scan_of}
+use Rattle.blocks.specs.declared.step.Block.{Block}
+use Rattle.blocks.specs.Step.{step_of, Short}
+use Rattle.block_headers.proofs.Scanning.{says_refusal, says_none, says_body}
 
 -- A STEP
 
-module _ (bs : List ℕ) (c : Cursor) (r : BlockStep) (is : r ≡ no_block c) where
-  pub end_outside : length bs < c.end → r ≡ block_step bs c
+module _ (bs : List ℕ) (c : Cursor) where
+  pub end_outside : length bs < c.end → no_block c ≡ block_step bs c
   unfolding block_step
-  end_outside h = is ∙ rw (lt-leb c.end (length bs) h)
+  end_outside h = rw (lt-leb c.end (length bs) h)
 
-  pub header_outside : c.end ≤ c.header → r ≡ block_step bs c
-  header_outside h = is ∙ sym (no_header bs c h)
+  pub header_outside : c.end ≤ c.header → no_block c ≡ block_step bs c
+  header_outside h = sym (no_header bs c h)
 
-  pub body_outside : c.end ≤ length bs → c.header < c.end → c.end < c.body → r ≡ block_step bs c
+  pub body_outside : c.end ≤ length bs → c.header < c.end → c.end < c.body → no_block c ≡ block_step bs c
   unfolding block_step
-  body_outside h k l = is ∙ rw (le-leb c.end (length bs) h, lt-ltb c.header c.end k, lt-leb c.body c.end l)
+  body_outside h k l = rw (le-leb c.end (length bs) h, lt-ltb c.header c.end k, lt-leb c.body c.end l)
 
 module _ (bs : List ℕ) (c : Cursor) (end : c.end ≤ length bs) (start : c.header < c.end) (body : c.body ≤ c.end) where
   first : byte (from_header bs c) 0 ≡ byte bs c.header
   first = let none : c.header + 0 ≡ c.header = omega arith in get_or-drop c.header bs 0 0 ∙ ap (byte bs) none
 
-  pub primary_there : byte bs c.header < 128 → (s : BlockStep) → s ≡ primary_step c (byte bs c.header) → s ≡ block_step bs c
-  primary_there low s is =
+  pub primary_there : byte bs c.header < 128 → (b : Block) → step_of c (Some b) ≡ primary_step c (byte bs c.header)
+      → step_of c (Some b) ≡ block_step bs c
+  primary_there low b is =
       is ∙ sym (last_step bs c end start body (lt-leb 128 (byte (from_header bs c) 0) (omega (arith, first))) ∙ rw first)
 
   module _ (high : 128 ≤ byte bs c.header) where
     more : another (from_header bs c) ≡ true
     more = le-leb 128 (byte (from_header bs c) 0) (omega (arith, first))
 
-    pub header_cut : c.end - c.header < 4 → (r : BlockStep) → r ≡ no_block c → r ≡ block_step bs c
+    pub header_cut : c.end - c.header < 4 → no_block c ≡ block_step bs c
     unfolding block_step
-    header_cut h r is = is ∙ rw (
+    header_cut h = rw (
       le-leb c.end (length bs) end,
       lt-ltb c.header c.end start,
       le-leb c.body c.end body,
@@ -63,11 +65,11 @@ module _ (bs : List ℕ) (c : Cursor) (end : c.end ≤ length bs) (start : c.hea
     )
 
     module _ (four : 4 ≤ c.end - c.header) (l : ℕ) (is_l : l ≡ length_at bs c.header) where
-      pub data_cut : c.end - c.body < l → (r : BlockStep) → r ≡ no_block c → r ≡ block_step bs c
+      pub data_cut : c.end - c.body < l → no_block c ≡ block_step bs c
       unfolding block_step length_at
-      data_cut h r is =
+      data_cut h =
           let cut : c.end - c.body < (block_header (from_header bs c)).length = omega (arith, is_l) in
-          is ∙ rw (
+          rw (
             le-leb c.end (length bs) end,
             lt-ltb c.header c.end start,
             le-leb c.body c.end body,
@@ -119,48 +121,40 @@ module _ (bs : List ℕ) (header body end : ℕ) (s : BlockStep) (is : s ≡ blo
 
 -- THE START
 
-module _ (bs : List ℕ) (h : Header) (stage : h ≡ header_of bs) where
-  pub no_start : (n : ℕ) → h ≡ header.Refused n → (k : ℕ) → k ≡ refusal_of_header h → (r : WalkStart) → r ≡ refused_start k → r ≡ walk_start bs
+module _ (bs : List ℕ) where
+  pub no_start : (k : ℕ) → Refuses k (header_refusal bs) → record { cursor = no_cursor; refusal = k } ≡ walk_start bs
   unfolding walk_start walk_refusal
-  no_start n e k is r q =
-      let s = refused_says bs h stage n e in
-      let same : k ≡ header_refusal bs = is ∙ ap refusal_of_header e ∙ s.1 in
-      q ∙ rw (same, s.0, s.0)
+  no_start k r = rw (r.number, r.is_one, r.is_one)
 
-  module _ (a e : ℕ) (f : h ≡ header.Found a e) where
-    found : header_refusal bs ≡ 0
-    found = (found_says bs h stage a e f).unrefused
+  module _ (unrefused : header_refusal bs ≡ none) (start end : ℕ) (from : start ≡ after_header bs) (to : end ≡ payload_end bs) where
+    part : part_of bs start end ≡ payload bs
+    part = payload_there bs unrefused start end from to
 
-    pub part : part_of bs a e ≡ payload bs
-    part = payload_there bs h stage a e f
-
-    pub ends_there : e ≡ payload_ends bs
+    ends_there : end ≡ payload_ends bs
     ends_there =
-        let long : length (payload bs) ≡ e - a = ap length (sym part) ∙ length_part bs a e (ends_within bs h stage a e f) in
-        omega (arith, long, (found_says bs h stage a e f).from, starts_before_end bs h stage a e f)
+        let within = ends_within bs unrefused start end from to in
+        let long : length (payload bs) ≡ end - start = ap length (sym part) ∙ length_part bs start end within in
+        omega (arith, long, from, starts_before_end bs unrefused start end from to)
 
-    module _ (x : Scanned) (is : x ≡ scan_of bs a e 0) where
-      scanned : x ≡ scan_in (payload bs) a 0
-      scanned = is ∙ ap (λ (p : List ℕ). scan_in p a 0) part
+    scanned : scan_of bs start end 0 ≡ scan_in (payload bs) start 0
+    scanned = ap (λ (q : List ℕ). scan_in q start 0) part
 
-      told : x.refusal ≡ blocks_refusal (payload bs)
-      told = says_refusal (payload bs) a 0 x scanned
+    pub not_carried : (k : ℕ) → refused_by k nothing_scanned ≡ scan_of bs start end 0
+        → record { cursor = no_cursor; refusal = k } ≡ walk_start bs
+    unfolding walk_start walk_refusal
+    not_carried k e =
+        let s = says_refusal (payload bs) start 0 k (e ∙ scanned) in
+        rw (s.0, unrefused, s.1)
 
-      pub not_carried : (x.refusal ≡ 0 → ⊥) → (r : WalkStart) → r ≡ refused_start x.refusal → r ≡ walk_start bs
-      unfolding walk_start walk_refusal
-      not_carried n r q =
-          let no : eqb (blocks_refusal (payload bs)) 0 ≡ false = ne_eqb (blocks_refusal (payload bs)) 0 (λ z. n (told ∙ z)) in
-          q ∙ rw (told, found, no)
-
-      pub started : x.refusal ≡ 0 → record { cursor = record { header = a; body = x.body; end = e }; refusal = 0 } ≡ walk_start bs
-      unfolding walk_start walk_refusal
-      started n =
-          let none : blocks_refusal (payload bs) ≡ 0 = sym told ∙ n in
-          let body = says_body (payload bs) a 0 x scanned n in
-          let from : a ≡ after_header bs = (found_says bs h stage a e f).from in
-          (λ i. record { cursor = record { header = a; body = body i; end = ends_there i }; refusal = 0 })
-          ∙ (λ i. record { cursor = record { header = from i; body = from i + last_header (payload bs) + 1; end = payload_ends bs }; refusal = 0 })
-          ∙ rw (found, none)
+    pub started : (x : Scanned) → answered x ≡ scan_of bs start end 0
+        → record { cursor = record { header = start; body = x.body; end = end }; refusal = 0 } ≡ walk_start bs
+    unfolding walk_start walk_refusal
+    started x e =
+        let no_other : blocks_refusal (payload bs) ≡ 0 = says_none (payload bs) start 0 x (e ∙ scanned) in
+        let body = says_body (payload bs) start 0 x (e ∙ scanned) in
+        (λ i. record { cursor = record { header = start; body = body i; end = ends_there i }; refusal = 0 })
+        ∙ (λ i. record { cursor = record { header = from i; body = from i + last_header (payload bs) + 1; end = payload_ends bs }; refusal = 0 })
+        ∙ rw (unrefused, no_other)
 
 pub ruleset stepping = (
   rules,

@@ -1,1 +1,1 @@
-pub mod Start
+pub mod Step

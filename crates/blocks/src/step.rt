@@ -1,32 +1,33 @@
 // One block after another, from a cursor on.
-ghost use Rattle.std.specs.Prelude.{◌-◌, cond, ◌≡◌};
-ghost use Rattle.model.specs.Walk.{cursor, no_block, primary_step, block_step, header_step, walk_start};
-ghost use Rattle.blocks.specs.Start.{Short, refused_start};
+ghost use Rattle.std.specs.Prelude.{◌≡◌};
+ghost use Rattle.refusals.specs.Refusals.{told};
+ghost use Rattle.model.specs.Answers.{no_cursor, walk_start_of};
+ghost use Rattle.model.specs.Walk.{cursor, primary_step, block_step, header_step, walk_start};
+ghost use Rattle.blocks.specs.Step.{step_of};
 
 use block_fields::{length_at, offset_at};
 use block_headers::scan;
-use header::{Header, header_of, header_refusal};
-use model::{BlockStep, Cursor, HeaderStep, WalkStart};
+use header::Header;
+use model::{BlockStep, Cursor, HeaderStep};
+use refusals::Refusal;
 
-fn no_block(c: Cursor) -> BlockStep
-    ensures { result ≡ no_block c }
-{
-    BlockStep {
-        after: c,
-        start: 0,
-        end: 0,
-        offset: 0,
-        payload_type: 0,
-        primary: false,
-        found: false,
-    }
+// A block: its payload type and timestamp offset, whether it is the primary, which is the last, and its data, from `start` up to `end` of
+// the packet; and the cursor after it.
+#[derive(Clone, Copy)]
+pub struct Block {
+    pub after: Cursor,
+    pub start: usize,
+    pub end: usize,
+    pub offset: u16,
+    pub payload_type: u8,
+    pub primary: bool,
 }
 
 // The primary, whose data go to the payload's end: the last block of a packet, and a plain packet's one.
-pub fn primary_at(c: Cursor, payload_type: u8) -> BlockStep
-    ensures { result ≡ primary_step c payload_type }
+pub fn primary_at(c: Cursor, payload_type: u8) -> Block
+    ensures { step_of c (Some result) ≡ primary_step c payload_type }
 {
-    BlockStep {
+    Block {
         after: Cursor {
             header: c.end,
             body: c.end,
@@ -35,77 +36,86 @@ pub fn primary_at(c: Cursor, payload_type: u8) -> BlockStep
         start: c.body,
         end: c.end,
         offset: 0,
-        payload_type: payload_type,
+        payload_type,
         primary: true,
-        found: true,
     }
 }
 
 // The block at a cursor, whatever its numbers: a block that does not stand inside the packet is none.
-pub fn block_step(s: &[u8], c: Cursor) -> BlockStep
-    ensures { result ≡ block_step s.now c }
+#[tactic(auto, using(crate::proofs::Steps::stepping))]
+pub fn block_at(s: &[u8], c: Cursor) -> Option<Block>
+    ensures { step_of c result ≡ block_step s.now c }
 {
-    if s.len() < c.end {
-        return no_block(c);
+    if s.len() < c.end || c.end <= c.header || c.end < c.body {
+        return None;
     }
-    if c.end <= c.header {
-        return no_block(c);
-    }
-    if c.end < c.body {
-        return no_block(c);
-    }
-    let header = c.header;
-    let first = s[header];
+    let first = s[c.header];
     if first < 128 {
-        return primary_at(c, first);
+        return Some(primary_at(c, first));
     }
-    if c.end - header < 4 {
-        return no_block(c);
+    if c.end - c.header < 4 {
+        return None;
     }
-    let length = length_at(s, header);
+    let length = length_at(s, c.header);
     if c.end - c.body < length {
-        return no_block(c);
+        return None;
     }
-    BlockStep {
+    let end = c.body + length;
+    Some(Block {
         after: Cursor {
-            header: header + 4,
-            body: c.body + length,
+            header: c.header + 4,
+            body: end,
             end: c.end,
         },
         start: c.body,
-        end: c.body + length,
-        offset: offset_at(s, header),
+        end,
+        offset: offset_at(s, c.header),
         payload_type: first % 128,
         primary: false,
-        found: true,
-    }
+    })
 }
 
-// What a header says of the length.
-fn length_said(primary: bool, start: usize, end: usize) -> u16
-    requires { Short primary start end }
-    ensures { result ≡ cond primary 0 (end - start) }
+// The same as C is told it.
+pub fn block_step(s: &[u8], c: Cursor) -> BlockStep
+    ensures { result ≡ block_step s.now c }
 {
-    if primary {
-        return 0;
+    match block_at(s, c) {
+        None => BlockStep {
+            after: c,
+            start: 0,
+            end: 0,
+            offset: 0,
+            payload_type: 0,
+            primary: false,
+            found: false,
+        },
+        Some(block) => BlockStep {
+            after: block.after,
+            start: block.start,
+            end: block.end,
+            offset: block.offset,
+            payload_type: block.payload_type,
+            primary: block.primary,
+            found: true,
+        },
     }
-    (end - start) as u16
 }
 
 // The same from the cursor's numbers, and in fewer: all of them fit into registers.
+#[tactic(auto, using(crate::proofs::Steps::stepping))]
 pub fn header_step(s: &[u8], header: usize, body: usize, end: usize) -> HeaderStep
     ensures { result ≡ header_step s.now (cursor header body end) }
 {
-    let c = Cursor {
-        header: header,
-        body: body,
-        end: end,
+    let step = block_step(s, Cursor { header, body, end });
+    // The length of an older block's data fits into 10 bits; the primary's is not told.
+    let length = if step.primary {
+        0
+    } else {
+        (step.end - step.start) as u16
     };
-    let step = block_step(s, c);
-    let after = step.after;
     HeaderStep {
-        next: after.header,
-        length: length_said(step.primary, step.start, step.end),
+        next: step.after.header,
+        length,
         offset: step.offset,
         payload_type: step.payload_type,
         primary: step.primary,
@@ -113,37 +123,15 @@ pub fn header_step(s: &[u8], header: usize, body: usize, end: usize) -> HeaderSt
     }
 }
 
-fn refused_start(refusal: u8) -> WalkStart
-    ensures { result ≡ refused_start refusal }
-{
-    WalkStart {
-        cursor: Cursor {
-            header: 0,
-            body: 0,
-            end: 0,
-        },
-        refusal: refusal,
-    }
-}
-
 // Where the walk over a packet's blocks starts: refusals 1 to 4, 18 and 19.
-pub fn walk_start(s: &[u8]) -> WalkStart
-    ensures { result ≡ walk_start s.now }
+pub fn walk_start(s: &[u8]) -> Result<Cursor, Refusal>
+    ensures { walk_start_of (told no_cursor result) ≡ walk_start s.now }
 {
-    let h = header_of(s);
-    let Header::Found { start, end } = h else {
-        return refused_start(header_refusal(h));
-    };
-    let said = scan(s, start, end, 0);
-    if said.refusal != 0 {
-        return refused_start(said.refusal);
-    }
-    WalkStart {
-        cursor: Cursor {
-            header: start,
-            body: said.body,
-            end: end,
-        },
-        refusal: 0,
-    }
+    let header = Header::read(s)?;
+    let scanned = scan(header, 0)?;
+    Ok(Cursor {
+        header: header.start,
+        body: scanned.body,
+        end: header.end,
+    })
 }

@@ -19,9 +19,10 @@ use Rattle.model.specs.Frames.{starts_whole, frame_size}
 use Rattle.model.specs.Capture.{Capturing, refuses_packed, receiving_all, receiving_none, receive_capture, together}
 use Rattle.theorems.proofs.Frames.{at_least_2, cut_if}
 use Rattle.theorems.proofs.Captures.{all_if_valid, none_if_invalid, nothing_more, all_none, of_frame, all_first, at_most_1, packed_once}
-use Rattle.receive.specs.Receives.{Receives}
-use Rattle.framing.specs.declared.Frame.{Frame}
-use Rattle.framing.specs.declared.Frame.TheVariants.{Whole, Rest}
+use Rattle.receive.specs.declared.Tested.{Tested}
+use Rattle.receive.specs.Receives.{in_table, SameColumns, Receives}
+use Rattle.std.specs.Prelude.{Some, None}
+use Rattle.std.specs.declared.ops.Range.{Range}
 use Rattle.framing.specs.Frame.{frame_at}
 use Rattle.framing.proofs.Laws.{WholeAt, whole_there, no_whole_there}
 use Rattle.tally.specs.declared.Tally.{Tally}
@@ -31,14 +32,14 @@ use Rattle.capture.specs.Receives.{ReceivesAll}
 -- FRAME BY FRAME
 -- Together with what is left to receive, the tally so far comes to the answer to the whole buffer.
 
-pub record Progress (h : Head) (keys heard bs : List ℕ) (h' : Head) (c : Tally) (keys' heard' : List ℕ) : Type 0 where
-  pub passes : valid (table_of h' keys' heard') ≡ true
-  pub held : h' ≡ holding c.count h
+pub record Progress (t : Tested) (bs : List ℕ) (t' : Tested) (c : Tally) : Type 0 where
+  pub held : t'.head ≡ holding c.count t.head
+  pub lent : SameColumns t t'
   pub within : c.used ≤ length bs
   pub few : c.packets ≤ c.used
   pub among : c.refused ≤ c.packets
   pub fewer : c.packed ≤ c.refused
-  pub same : together (captured c) (receiving_all (table_of h' keys' heard') (drop c.used bs)) ≡ receiving_all (table_of h keys heard) bs
+  pub same : together (captured c) (receiving_all (in_table t') (drop c.used bs)) ≡ receiving_all (in_table t) bs
 
 none_before : (x : Capturing) (count : ℕ) → together (captured (none_yet count)) x ≡ x
 none_before x count = λ i. record {
@@ -94,77 +95,75 @@ one_between x c got size among = λ i. record {
     taken true = omega arith
     taken false = omega arith
 
-module _ (h : Head) (keys heard bs : List ℕ) where
-  pub starts : valid (table_of h keys heard) ≡ true → (c : Tally) → c ≡ none_yet h.count → Progress h keys heard bs h c keys heard
-  starts v c e = rw e (record {
-    passes = v;
+module _ (t : Tested) (bs : List ℕ) where
+  pub starts : (c : Tally) → c ≡ none_yet t.head.count → Progress t bs t c
+  starts c e = rw e (record {
     held = refl;
+    lent = record { keys = refl; heard = refl };
     within = omega arith;
     few = omega arith;
     among = omega arith;
     fewer = omega arith;
-    same = none_before (receiving_all (table_of h keys heard) bs) h.count;
+    same = none_before (receiving_all (in_table t) bs) t.head.count;
   })
 
-module _ (h : Head) (keys heard bs : List ℕ) (h' : Head) (c : Tally) (keys' heard' : List ℕ) (w : Progress h keys heard bs h' c keys' heard') where
-  ends : starts_whole (drop c.used bs) ≡ false → (a : Captured) → a ≡ captured c → ReceivesAll h keys heard bs a keys' heard'
-  ends e a is =
-      let u = table_of h' keys' heard' in
-      let back : holding c.count h ≡ h' = sym w.held in
-      let x : ◌≡◌ {A = Capturing} (record { answer = captured c; table = u }) (receiving_all (table_of h keys heard) bs)
-      = sym (none_after u c (λ i. (w.held i).count)) ∙ ap (together (captured c)) (sym (all_none u (drop c.used bs) e)) ∙ w.same in
-      rw is (record { answer = λ i. (x i).answer; table = (λ i. table_of (back i) keys' heard') ∙ (λ i. (x i).table) })
+module _ (t : Tested) (bs : List ℕ) (t' : Tested) (c : Tally) (w : Progress t bs t' c) where
+  pub refused_among : c.refused ≤ c.packets
+  refused_among = w.among
 
-  pub no_more : length bs - c.used < 2 → (a : Captured) → a ≡ captured c → ReceivesAll h keys heard bs a keys' heard'
-  no_more h = ends (cut_if (drop c.used bs) (omega (arith, length-drop c.used bs, at_least_2 (drop c.used bs))))
+  pub used_within : c.used ≤ length bs
+  used_within = w.within
 
-  module _ (f : Frame) (is : f ≡ frame_at bs c.used) where
-    pub cut : f ≡ Rest → (a : Captured) → a ≡ captured c → ReceivesAll h keys heard bs a keys' heard'
-    cut e = ends (no_whole_there bs c.used f is e)
+  pub no_more : None ≡ frame_at bs c.used → (a : Captured) → a ≡ captured c → ReceivesAll t bs a t'
+  no_more e a is =
+      let u = in_table t' in
+      let x : ◌≡◌ {A = Capturing} (record { answer = captured c; table = u }) (receiving_all (in_table t) bs)
+      = sym (none_after u c (λ i. (w.held i).count)) ∙ ap (together (captured c)) (sym (all_none u (drop c.used bs) (no_whole_there bs c.used e))) ∙ w.same in
+      let all : receive_capture (in_table t) bs ≡ receiving_all (in_table t) bs = all_if_valid (in_table t) bs t.passes in
+      rw is (record { answer = λ i. ((x ∙ sym all) i).answer; table = λ i. ((x ∙ sym all) i).table; head = w.held; lent = w.lent })
 
-    module _ (start end : ℕ) (e : f ≡ Whole start end) where
-      here : WholeAt bs c.used start end
-      here = whole_there bs c.used f is start end e
+  module _ (p : Range ℕ) (e : Some p ≡ frame_at bs c.used) where
+    here : WholeAt bs c.used p.start p.end
+    here = whole_there bs c.used p e
 
-      pub whole_ordered : start ≤ end
-      whole_ordered = here.ordered
+    pub whole_ordered : p.start ≤ p.end
+    whole_ordered = here.ordered
 
-      pub whole_within : end ≤ length bs
-      whole_within = here.within
+    pub whole_within : p.end ≤ length bs
+    whole_within = here.within
 
-      pub room_for_one : Room c end
-      room_for_one = record { few = w.few; among = w.among; fewer = w.fewer; more = omega (arith, here.passed) }
+    pub room_for_one : Room c p.end
+    room_for_one = record { few = w.few; among = w.among; fewer = w.fewer; more = omega (arith, here.passed) }
 
-      -- fewer bytes come after it than from its place on
-      pub fewer_left : (c' : Tally) (got : Received) → c' ≡ one_more c got end → length bs - c'.used < length bs - c.used
-      fewer_left c' got e = let u : c'.used ≡ end = λ i. (e i).used in omega (arith, u, here.passed, here.within)
+    -- fewer bytes come after it than from its place on
+    pub fewer_left : (c' : Tally) (got : Received) → c' ≡ one_more c got p.end → length bs - c'.used < length bs - c.used
+    fewer_left c' got e = let u : c'.used ≡ p.end = λ i. (e i).used in omega (arith, u, here.passed, here.within)
 
-      abbrev left : List ℕ
-      left = drop c.used bs
+    abbrev left : List ℕ
+    left = drop c.used bs
 
-      -- what was left to receive is this frame, and what comes after it
-      next : (got : Received) (u : Table) → got ≡ (receive (table_of h' keys' heard') (take (end - start) (drop start bs))).answer
-          → u ≡ (receive (table_of h' keys' heard') (take (end - start) (drop start bs))).table
-          → together (of_frame (frame_size left) got) (receiving_all u (drop end bs)) ≡ receiving_all (table_of h' keys' heard') left
-      next got u x y = rw (x, y, here.packet, here.after) (sym (all_first (table_of h' keys' heard') left here.whole))
+    -- what was left to receive is this frame, and what comes after it
+    next : (got : Received) (u : Table) → got ≡ (receive (in_table t') (take (p.end - p.start) (drop p.start bs))).answer
+        → u ≡ (receive (in_table t') (take (p.end - p.start) (drop p.start bs))).table
+        → together (of_frame (frame_size left) got) (receiving_all u (drop p.end bs)) ≡ receiving_all (in_table t') left
+    next got u x y = rw (x, y, here.packet, here.after) (sym (all_first (in_table t') left here.whole))
 
-      pub one_more_frame : (got : Received) (keys'' heard'' : List ℕ)
-          → Receives h' keys' heard' (take (end - start) (drop start bs)) got keys'' heard'' → (c' : Tally) → c' ≡ one_more c got end
-          → Progress h keys heard bs (holding got.count h') c' keys'' heard''
-      one_more_frame got keys'' heard'' r c' q =
-          let u = table_of (holding got.count h') keys'' heard'' in
-          let both : together (captured (one_more c got end)) (receiving_all u (drop end bs)) ≡ receiving_all (table_of h keys heard) bs
-          = ap (λ (n : ℕ). together (captured (one_more c got n)) (receiving_all u (drop end bs))) here.size
-          ∙ one_between (receiving_all u (drop end bs)) c got (frame_size left) w.among ∙ ap (together (captured c)) (next got u r.answer r.table) ∙ w.same in
-          rw q (record {
-            passes = r.passes;
-            held = λ i. holding got.count (w.held i);
-            within = here.within;
-            few = omega (arith, w.few, here.passed);
-            among = omega (arith, at_most_1 (refuses got), w.among);
-            fewer = omega (arith, packed_once got.refusal, w.fewer);
-            same = both;
-          })
+    pub one_more_frame : (got : Received) (t'' : Tested) → Receives t' (take (p.end - p.start) (drop p.start bs)) got t''
+        → (c' : Tally) → c' ≡ one_more c got p.end → Progress t bs t'' c'
+    one_more_frame got t'' r c' q =
+        let u = in_table t'' in
+        let both : together (captured (one_more c got p.end)) (receiving_all u (drop p.end bs)) ≡ receiving_all (in_table t) bs
+        = ap (λ (n : ℕ). together (captured (one_more c got n)) (receiving_all u (drop p.end bs))) here.size
+        ∙ one_between (receiving_all u (drop p.end bs)) c got (frame_size left) w.among ∙ ap (together (captured c)) (next got u r.answer r.table) ∙ w.same in
+        rw q (record {
+          held = r.head ∙ (λ i. holding got.count (w.held i));
+          lent = record { keys = r.lent.keys ∙ w.lent.keys; heard = r.lent.heard ∙ w.lent.heard };
+          within = here.within;
+          few = omega (arith, w.few, here.passed);
+          among = omega (arith, at_most_1 (refuses got), w.among);
+          fewer = omega (arith, packed_once got.refusal, w.fewer);
+          same = both;
+        })
 
 -- 16
 
@@ -184,18 +183,12 @@ module _ (h : Head) (keys heard bs : List ℕ) (b : Bool) (is : b ≡ valid (tab
     unfolding receiving_none
     bad_table_stays = rw (refused, e)
 
-module _ (h : Head) (keys heard bs : List ℕ) (v : valid (table_of h keys heard) ≡ true) (a : Captured) (keys' heard' : List ℕ) (r : ReceivesAll h keys heard bs a keys' heard') where
-  pub all_answered : a ≡ (receive_capture (table_of h keys heard) bs).answer
-  all_answered = rw (all_if_valid (table_of h keys heard) bs v) r.answer
-
-  pub all_received : table_of (holding a.count h) keys' heard' ≡ (receive_capture (table_of h keys heard) bs).table
-  all_received = rw (all_if_valid (table_of h keys heard) bs v) r.table
-
 pub ruleset capturing = (
   rules,
   starts,
+  refused_among,
+  used_within,
   no_more,
-  cut,
   whole_ordered,
   whole_within,
   room_for_one,
@@ -204,6 +197,4 @@ pub ruleset capturing = (
   passed,
   bad_table,
   bad_table_stays,
-  all_answered,
-  all_received,
 )

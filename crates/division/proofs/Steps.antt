@@ -50,18 +50,18 @@ module _ (n d bits : ℕ) (few : n < d * 2 ^ bits) (narrow : d * 2 ^ bits < 0x1_
           let wide : 2 ^ 32 ≤ 2 ^ bits = pow_mono {i = 32} (omega arith) in
           absurd (omega (arith, wide, mul-le-mul_right (2 ^ bits) (some_divisor n d (2 ^ bits) few)))
 
-  at_most : q + q ≤ n
+  at_most : q * 2 ≤ n
   at_most =
       let some : 1 ≤ part = omega (arith, s.below, twice) in
       omega (arith, regrouped, mul-le-mul_left q some)
 
-  pub doubled_fits : Fits w32 (q + q)
+  pub doubled_fits : Fits w32 (q * 2)
   doubled_fits = record { fits = omega (arith, at_most) }
 
-  pub odd_fits : Fits w32 (q + q + 1)
+  pub odd_fits : Fits w32 (q * 2 + 1)
   odd_fits = record { fits = omega (arith, at_most) }
 
-  pub subtracted : part % 0x1_0000_0000 ≤ r → Dividing n d bits (q + q + 1) (r - part % 0x1_0000_0000) (k - 1)
+  pub subtracted : part % 0x1_0000_0000 ≤ r → Dividing n d bits (q * 2 + 1) (r - part % 0x1_0000_0000) (k - 1)
   subtracted h =
       record {
         left = omega (arith, s.left);
@@ -69,7 +69,7 @@ module _ (n d bits : ℕ) (few : n < d * 2 ^ bits) (narrow : d * 2 ^ bits < 0x1_
         below = rw exact (omega (arith, s.below, twice, exact));
       }
 
-  pub passed_over : r < part % 0x1_0000_0000 → Dividing n d bits (q + q) r (k - 1)
+  pub passed_over : r < part % 0x1_0000_0000 → Dividing n d bits (q * 2) r (k - 1)
   passed_over h =
       record {
         left = omega (arith, s.left);

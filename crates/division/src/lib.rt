@@ -16,20 +16,15 @@ pub fn divide(n: u32, d: u32, bits: u32) -> Divided
     ensures quotient_value { result.quotient ≡ n / d }
     ensures remainder_value { result.remainder ≡ n % d }
 {
-    let mut quotient = 0u32;
+    let mut quotient = 0;
     let mut remainder = n;
-    let mut k = bits;
-    while 0 < k {
-        k -= 1;
-        quotient += quotient;
+    for k in (0..bits).rev() {
+        quotient *= 2;
         let part = d << k;
         if part <= remainder {
             remainder -= part;
             quotient += 1;
         }
     }
-    Divided {
-        quotient: quotient,
-        remainder: remainder,
-    }
+    Divided { quotient, remainder }
 }

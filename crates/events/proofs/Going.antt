@@ -11,7 +11,9 @@ use lib.ListN.{length, get_or, drop, length-drop}
 use lib.Seq.{get_or-drop, drop-drop}
 use Rattle.model.specs.declared.Event.{Event}
 use Rattle.model.specs.declared.Table.{Table}
-use Rattle.model.specs.Answers.{no_event}
+use Rattle.model.specs.declared.Listed.{Listed}
+use Rattle.refusals.specs.Refusals.{answered}
+use Rattle.model.specs.Answers.{no_event, listed_of}
 use Rattle.model.specs.Table.{valid}
 use Rattle.model.specs.List.{events, list_answer}
 
@@ -46,3 +48,19 @@ module _ (t : Table) where
       go false b l = absurd (not-suc-le-zero l)
       go true true l = absurd (not-suc-le-zero l)
       go true false l = (refl, l)
+
+  -- an answer that is given is of a table that passes the tests, and no larger than what is lent
+  pub given : (room n : ℕ) → listed_of (answered n) ≡ list_answer t room → (valid t ≡ true) × ((n ≡ length (events t)) × (n ≤ room))
+  given room n = go (valid t) (ltb room (length (events t))) refl
+    where
+      go : (v b : Bool) → ltb room (length (events t)) ≡ b
+          → ◌≡◌ {A = Listed} (record { refusal = 0; events = n }) (record {
+            refusal = cond (not v) 16 (cond b 15 0);
+            events = cond (eqb (cond (not v) 16 (cond b 15 0)) 0) (length (events t)) 0;
+          })
+          → (v ≡ true) × ((n ≡ length (events t)) × (n ≤ room))
+      go false b x e = absurd (omega (arith, ap (λ (a : Listed). a.refusal) e))
+      go true true x e = absurd (omega (arith, ap (λ (a : Listed). a.refusal) e))
+      go true false x e =
+          let all = ap (λ (a : Listed). a.events) e in
+          (refl, (all, omega (arith, all, ltb-false room (length (events t)) x)))

@@ -1,22 +1,24 @@
--- Each way of the walk to an event and through the two calls, as a law over a table's columns.
+-- Where the event at a number begins, and each way through the two calls, as laws over what a table holds.
 use Prim.Native.Nat.{ℕ, suc, ◌+◌, ◌-◌, ◌≤◌, ◌<◌}
-use mathlib.Core.Path.{◌≡◌, refl, sym, ◌∙◌, ap}
-use mathlib.Core.Bool.{Bool, true, false, not}
+use mathlib.Core.Path.{◌≡◌, refl, ◌∙◌, ap}
+use mathlib.Core.Bool.{Bool, true, false}
 use mathlib.Core.List.{List}
 use native.Mathlib.Omega.{arith}
 use borrow.Author.Rules.{rules}
-use borrow.Author.Tests.{lt-ltb, le-ltb, ltb-true, ltb-false, eq-eqb, ne_eqb, not-true, not-false}
+use borrow.Author.Tests.{le-ltb, ltb-true, ltb-false, ne_eqb}
 use lib.Dec.{ltb}
 use lib.ListN.{length, get_or, drop}
 use Rattle.model.specs.declared.Table.{Table}
 use Rattle.model.specs.declared.Event.{Event}
-use Rattle.refusals.specs.Refusals.{answered, refused_by}
+use Rattle.refusals.specs.Refusals.{answered}
 use Rattle.model.specs.Answers.{no_event}
 use Rattle.model.specs.Table.{valid}
-use Rattle.model.specs.List.{events, event_at, list_answer}
-use Rattle.grouping.specs.Places.{begins, event_from, events_after, events_in}
+use Rattle.model.specs.List.{events, event_at}
+use Rattle.grouping.specs.declared.held.Held.{Held}
+use Rattle.grouping.specs.Events.{events_of, events_from}
+use Rattle.grouping.specs.Places.{begins, event_from, events_after}
+use Rattle.grouping.proofs.Laws.{all_after, none_after, begun, passed}
 use Rattle.events.specs.Numbers.{Finds}
-use Rattle.grouping.proofs.Laws.{in_ranges, fewer, all_after, none_after, begun, passed}
 
 -- THE WALK TO AN EVENT
 
@@ -61,62 +63,18 @@ module _ (keys heard : List ℕ) where
             let first = begun keys heard n i w.less b is e in
             record { less = w.less; event = rw (z, first) at w.event; rest = rw (z, first) at w.rest }
 
-  pub all_from_0 : (n k : ℕ) → k < length (events_in keys heard n) → k < length (events_after keys heard n 0)
-  all_from_0 n k h = omega (arith, ap length (all_after keys heard n))
+-- THE EVENT AT A NUMBER
 
-  pub by_number : (n k i : ℕ) → Finds keys heard n 0 k i → (v : Event) → v ≡ event_from keys heard n i
-      → v ≡ get_or (events_in keys heard n) k no_event
-  by_number n k i w v e = e ∙ w.event ∙ ap (λ (l : List Event). get_or l k no_event) (all_after keys heard n)
+module _ (h : Held) (k : ℕ) where
+  pub all_from_0 : k < length (events_of h) → k < length (events_from h 0)
+  all_from_0 l = omega (arith, ap length (all_after h.keys.now h.heard.now (length h.keys.now)))
 
--- THE EVENT AT A NUMBER, AND THE LIST CALL'S ANSWER
+  pub number_found : (t : Table) → (valid t ≡ true) × (events_of h ≡ events t) → (k ≡ 0 → ⊥) → k ≤ length (events_of h)
+      → (i : ℕ) → Finds h.keys.now h.heard.now (length h.keys.now) 0 (k - 1) i
+      → (v : Event) → v ≡ event_from h.keys.now h.heard.now (length h.keys.now) i → answered v ≡ event_at t k
+  number_found t holds some few i found v is =
+      let all : events_from h 0 ≡ events t = all_after h.keys.now h.heard.now (length h.keys.now) ∙ holds.1 in
+      let e : v ≡ get_or (events t) (k - 1) no_event = is ∙ found.event ∙ ap (λ (l : List Event). get_or l (k - 1) no_event) all in
+      ap answered e ∙ rw (holds.0, ne_eqb k 0 some, le-ltb (length (events t)) k (rw holds.1 at few))
 
-module _ (t : Table) (ok : Bool) (test : ok ≡ valid t) where
-  pub passes_test : not ok ≡ false → valid t ≡ true
-  passes_test h = sym test ∙ not-false ok h
-
-  module _ (k : ℕ) where
-    pub fails_test : not ok ≡ true → refused_by 16 no_event ≡ event_at t k
-    fails_test h = rw (sym test ∙ not-true ok h)
-
-    module _ (passed : not ok ≡ false) where
-      pub number_zero : k ≡ 0 → refused_by 13 no_event ≡ event_at t k
-      number_zero z = rw (passes_test passed, eq-eqb k 0 z)
-
-      module _ (some : k ≡ 0 → ⊥) (n : ℕ) (all : n ≡ length (events t)) where
-        pub number_high : n < k → refused_by 13 no_event ≡ event_at t k
-        number_high h = rw (passes_test passed, ne_eqb k 0 some, lt-ltb (length (events t)) k (rw all at h))
-
-        pub number_found : k ≤ n → (v : Event) → v ≡ get_or (events t) (k - 1) no_event → answered v ≡ event_at t k
-        number_found h v e =
-            ap answered e ∙ rw (passes_test passed, ne_eqb k 0 some, le-ltb (length (events t)) k (rw all at h))
-
-  module _ (room : ℕ) where
-    pub list_fails_test : not ok ≡ true → record { refusal = 16; events = 0 } ≡ list_answer t room
-    list_fails_test h = rw (sym test ∙ not-true ok h)
-
-    module _ (passed : not ok ≡ false) (n : ℕ) (all : n ≡ length (events t)) where
-      pub list_small : room < n → record { refusal = 15; events = 0 } ≡ list_answer t room
-      list_small h = rw (passes_test passed, lt-ltb room (length (events t)) (rw all at h))
-
-      pub list_fits : n ≤ room → record { refusal = 0; events = n } ≡ list_answer t room
-      list_fits h = rw (all, passes_test passed, le-ltb room (length (events t)) (rw all at h))
-
-pub ruleset table_events = (
-  rules,
-  in_ranges,
-  fewer,
-  walk_starts,
-  walk_passes,
-  walk_on,
-  walk_found,
-  all_from_0,
-  by_number,
-  passes_test,
-  fails_test,
-  number_zero,
-  number_high,
-  number_found,
-  list_fails_test,
-  list_small,
-  list_fits,
-)
+pub ruleset table_events = (rules, walk_starts, walk_passes, walk_on, walk_found, all_from_0, number_found)

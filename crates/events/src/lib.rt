@@ -1,86 +1,76 @@
-// The events of a receiving table whose columns are lent: the event at a number, and what the list call answers.
+// The events of a receiving table whose columns are lent: the event at a number, and how many the list call writes.
 #![tactic(auto)]
 
 ghost use Rattle.std.specs.Prelude.{◌≡◌, ◌<◌, length};
-ghost use Rattle.model.specs.Answers.{told_event};
+ghost use Rattle.refusals.specs.Refusals.{told};
+ghost use Rattle.model.specs.Answers.{no_event, listed_of};
 ghost use Rattle.model.specs.Table.{table_of};
 ghost use Rattle.model.specs.List.{event_at, list_answer};
-ghost use Rattle.grouping.specs.Places.{InRanges, events_after};
-ghost use Rattle.events.specs.Numbers.{Finds};
+ghost use Rattle.grouping.specs.Events.{events_from};
+ghost use Rattle.events.specs.Numbers.{Finds, HeldBy};
 
-use grouping::{begins_at, count_of, event_from};
-use model::{EventAnswer, Head, Listed};
+use grouping::Held;
+use model::{Event, Head};
+use refusals::Refusal;
 
-// Of n places: the one where event k begins, counted from 0 among those that begin at the place `from` or later. Whoever goes on after
-// it finds the later ones.
-pub fn event_place<'a>(
-    keys: &'a [u64; 128],
-    heard: &'a [u32; 128],
-    n: usize,
-    from: usize,
-    k: usize,
-) -> usize
-    requires in_ranges { InRanges keys.now heard.now n }
-    requires k_in_bounds { k < length (events_after keys.now heard.now n from) }
-    ensures { Finds keys.now heard.now n from k result }
+// The segments that a table holds, or 16.
+fn held<'a>(head: Head, keys: &'a [u64; 128], heard: &'a [u32; 128]) -> Result<Held<'a>, Refusal>
+    ensures { HeldBy (table_of head keys.now heard.now) result }
+{
+    if !valid::is_valid(head, keys, heard) {
+        return Err(Refusal::InvalidTable);
+    }
+    Ok(Held::of(keys, heard, head.count))
+}
+
+// The place where event k begins, counted from 0 among those that begin at the place `from` or later. Whoever goes on after it finds
+// the later ones. It tests for no last place, since that event is still to come.
+pub fn event_place(held: Held, from: usize, k: usize) -> usize
+    requires { k < length (events_from held from) }
+    ensures { Finds held.entry.keys.now held.entry.heard.now (length held.entry.keys.now) from k result }
 {
     let mut left = k;
-    let mut i = from;
+    let mut place = from;
     loop {
-        let place = i;
-        i += 1;
-        if begins_at(keys, heard, place) {
+        if held.begins(place) {
             if left == 0 {
                 return place;
             }
             left -= 1;
         }
+        place += 1;
     }
 }
 
 // Tells the event at number k, counted from 1 by start, then code, or refuses with 16 or 13.
-pub fn event_at<'a>(head: Head, keys: &'a [u64; 128], heard: &'a [u32; 128], k: u32) -> EventAnswer
-    ensures { told_event result ≡ event_at (table_of head keys.now heard.now) k }
+pub fn event_at<'a>(
+    head: Head,
+    keys: &'a [u64; 128],
+    heard: &'a [u32; 128],
+    k: u32,
+) -> Result<Event, Refusal>
+    ensures { told no_event result ≡ event_at (table_of head keys.now heard.now) k }
 {
-    if !valid::is_valid(head, keys, heard) {
-        return EventAnswer::Refused(refusals::INVALID_TABLE);
-    }
+    let held = held(head, keys, heard)?;
     let number = k as usize;
-    if number == 0 {
-        return EventAnswer::Refused(refusals::NO_SUCH_NUMBER);
+    if number == 0 || held.count() < number {
+        return Err(Refusal::NoSuchNumber);
     }
-    let n = count_of(keys, heard, head.count);
-    if n < number {
-        return EventAnswer::Refused(refusals::NO_SUCH_NUMBER);
-    }
-    let place = event_place(keys, heard, head.count, 0, number - 1);
-    EventAnswer::Found(event_from(keys, heard, head.count, place))
+    Ok(held.event_from(event_place(held, 0, number - 1)))
 }
 
-// What the list call answers where `room` records are lent.
+// How many events the list call writes where `room` records are lent, or 16 or 15.
 pub fn answer_for<'a>(
     head: Head,
     keys: &'a [u64; 128],
     heard: &'a [u32; 128],
     room: usize,
-) -> Listed
-    ensures { result ≡ list_answer (table_of head keys.now heard.now) room }
+) -> Result<usize, Refusal>
+    ensures { listed_of (told 0 result) ≡ list_answer (table_of head keys.now heard.now) room }
 {
-    if !valid::is_valid(head, keys, heard) {
-        return Listed {
-            refusal: refusals::INVALID_TABLE,
-            events: 0,
-        };
-    }
-    let n = count_of(keys, heard, head.count);
+    let n = held(head, keys, heard)?.count();
     if room < n {
-        return Listed {
-            refusal: refusals::LIST_TOO_SMALL,
-            events: 0,
-        };
+        return Err(Refusal::ListTooSmall);
     }
-    Listed {
-        refusal: 0,
-        events: n,
-    }
+    Ok(n)
 }

@@ -10,8 +10,8 @@ use lib.Seq.{get_or-drop, drop-drop}
 use Rattle.model.specs.Packet.{byte, number16}
 use Rattle.model.specs.Frames.{frame_size, starts_whole, first_packet, after_first}
 use Rattle.theorems.proofs.Frames.{whole_if, whole_then, cut_if}
-use Rattle.framing.specs.declared.Frame.{Frame}
-use Rattle.framing.specs.declared.Frame.TheVariants.{Whole, Rest}
+use Rattle.std.specs.Prelude.{Some, None}
+use Rattle.std.specs.declared.ops.Range.{Range}
 use Rattle.framing.specs.Frame.{frame_at}
 
 module _ (bs : List ℕ) (at : ℕ) where
@@ -19,22 +19,22 @@ module _ (bs : List ℕ) (at : ℕ) where
   unfolding frame_size
   size_there = let here : at + 0 ≡ at = omega arith in rw (get_or-drop at bs 0 0, get_or-drop at bs 1 0, here)
 
-  none_whole : length bs - at < frame_size (drop at bs) → Rest ≡ frame_at bs at
+  none_whole : length bs - at < frame_size (drop at bs) → None ≡ frame_at bs at
   unfolding frame_at
   none_whole h = rw (cut_if (drop at bs) (omega (arith, length-drop at bs)))
 
-  pub length_cut : length bs - at < 2 → Rest ≡ frame_at bs at
+  pub length_cut : length bs - at < 2 → None ≡ frame_at bs at
   length_cut h = none_whole (omega (arith, size_there))
 
-  module _ (two : 2 ≤ length bs - at) (x y : ℕ) (high : x ≡ byte bs at) (low : y ≡ byte bs (at + 1)) where
-    pub packet_cut : length bs - at - 2 < x * 256 + y → Rest ≡ frame_at bs at
-    packet_cut h = none_whole (omega (arith, size_there, high, low))
+  module _ (two : 2 ≤ length bs - at) (n : ℕ) (is : n ≡ number16 bs at) where
+    pub packet_cut : length bs - at - 2 < n → None ≡ frame_at bs at
+    packet_cut h = none_whole (omega (arith, size_there, is))
 
-    pub packet_whole : x * 256 + y ≤ length bs - at - 2 → Whole (at + 2) (at + 2 + (x * 256 + y)) ≡ frame_at bs at
+    pub packet_whole : n ≤ length bs - at - 2 → Some (record { start = at + 2; end = at + 2 + n }) ≡ frame_at bs at
     unfolding frame_at
     packet_whole h =
-        let size : at + frame_size (drop at bs) ≡ at + 2 + (x * 256 + y) = omega (arith, size_there, high, low) in
-        rw (whole_if (drop at bs) (omega (arith, size_there, high, low, length-drop at bs)), size)
+        let size : at + frame_size (drop at bs) ≡ at + 2 + n = omega (arith, size_there, is) in
+        rw (whole_if (drop at bs) (omega (arith, size_there, is, length-drop at bs)), size)
 
 -- a whole frame at a place, with its packet and what comes after it
 pub record WholeAt (bs : List ℕ) (at start end : ℕ) : Type 0 where
@@ -63,22 +63,27 @@ module _ (bs : List ℕ) (at : ℕ) where
         after = sym (drop-drop (2 + n) at bs);
       }
 
-  pub whole_there : (f : Frame) → f ≡ frame_at bs at → (start end : ℕ) → f ≡ Whole start end → WholeAt bs at start end
-  unfolding frame_at
-  whole_there f is start end w = go (starts_whole (drop at bs)) refl (sym w ∙ is)
-    where
-      go : (b : Bool) → starts_whole (drop at bs) ≡ b → Whole start end ≡ cond b (Whole (at + 2) (at + frame_size (drop at bs))) Rest → WholeAt bs at start end
-      go false e x = let u : ◌≡◌ {A = ℕ} 0 1 = cc in absurd (omega (arith, u))
-      go true e x =
-          let p : start ≡ at + 2 = cc in
-          let q : end ≡ at + frame_size (drop at bs) = cc in
-          rw (p, q) (stands e)
+  abbrev there : Range ℕ
+  there = record { start = at + 2; end = at + frame_size (drop at bs) }
 
-  pub no_whole_there : (f : Frame) → f ≡ frame_at bs at → f ≡ Rest → starts_whole (drop at bs) ≡ false
+  -- a packet that is told of, and none
+  module _ (p : Range ℕ) (is : Some p ≡ frame_at bs at) where
+    pub whole_there : WholeAt bs at p.start p.end
+    unfolding frame_at
+    whole_there = go (starts_whole (drop at bs)) refl is
+      where
+        go : (b : Bool) → starts_whole (drop at bs) ≡ b
+            → Some p ≡ cond b (Some there) None → WholeAt bs at p.start p.end
+        go false e x = let u : ◌≡◌ {A = ℕ} 0 1 = cc in absurd (omega (arith, u))
+        go true e x =
+            let q : p ≡ there = cc in
+            rw q (stands e)
+
+  pub no_whole_there : None ≡ frame_at bs at → starts_whole (drop at bs) ≡ false
   unfolding frame_at
-  no_whole_there f is r = go (starts_whole (drop at bs)) (sym r ∙ is)
+  no_whole_there = go (starts_whole (drop at bs))
     where
-      go : (b : Bool) → Rest ≡ cond b (Whole (at + 2) (at + frame_size (drop at bs))) Rest → b ≡ false
+      go : (b : Bool) → None ≡ cond b (Some there) None → b ≡ false
       go false x = refl
       go true x = let u : ◌≡◌ {A = ℕ} 0 1 = cc in absurd (omega (arith, u))
 

@@ -4,36 +4,24 @@
 ghost use Rattle.std.specs.Prelude.{◌≡◌, ◌≤◌, length};
 ghost use Rattle.framing.specs.Frame.{frame_at};
 
-// What stands at a place of a buffer: a whole frame, whose packet goes from `start` up to `end`; or the rest, which has none at its
-// start: nothing, one byte of a length, or a frame that the buffer's end cuts short.
-#[derive(Clone, Copy)]
-pub enum Frame {
-    Whole { start: usize, end: usize },
-    Rest,
-}
+use big_endian::number_16;
+use std::ops::Range;
 
-fn wide(b: u8) -> usize
-    ensures { (result ≡ b) × (result ≤ 255) }
-{
-    b as usize
-}
-
-// Tells what stands at a place of a buffer.
+// The places of the packet whose whole frame stands at a place of a buffer. There is none where the rest of the buffer is nothing, one byte
+// of a length, or a frame that the buffer's end cuts short.
 #[tactic(auto, using(crate::proofs::Laws::framing))]
-pub fn frame_at(s: &[u8], at: usize) -> Frame
+pub fn frame_at(s: &[u8], at: usize) -> Option<Range<usize>>
     requires { at ≤ length s.now }
     ensures { result ≡ frame_at s.now at }
 {
     let left = s.len() - at;
     if left < 2 {
-        return Frame::Rest;
+        return None;
     }
-    let length = wide(s[at]) * 256 + wide(s[at + 1]);
+    let length = usize::from(number_16(s, at));
     if left - 2 < length {
-        return Frame::Rest;
+        return None;
     }
-    Frame::Whole {
-        start: at + 2,
-        end: at + 2 + length,
-    }
+    let start = at + 2;
+    Some(start..start + length)
 }

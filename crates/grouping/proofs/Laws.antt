@@ -1,22 +1,34 @@
 -- Each way through the definitions of Places, as a law over two columns and their places.
-use Prim.Native.Nat.{ℕ, suc, ◌+◌, ◌-◌, ◌*◌, ◌≤◌, ◌<◌, ◌%◌, min, max}
+use Prim.Native.Nat.{ℕ, zero, suc, ◌+◌, ◌-◌, ◌*◌, ◌≤◌, ◌<◌, ◌%◌, min, max}
 use mathlib.Core.Path.{◌≡◌, refl, sym, ◌∙◌, ap, ap₂}
 use mathlib.Core.Bool.{Bool, true, false, not, cond, ◌&&◌}
 use mathlib.Core.List.{List, [], ◌∷◌}
 use native.Mathlib.Numerals.{add-one}
 use native.Mathlib.Omega.{arith}
+use mir.Val.{bool_byte}
 use borrow.Author.Rules.{rules}
 use borrow.Author.Tests.{eq-eqb, ne_eqb, not-true, not-false}
 use lib.Dec.{eqb}
-use lib.ListN.{length, get_or}
+use lib.ListN.{length, get_or, take}
+use Rattle.std.proofs.lemmas.List.{get_or-take}
 use Rattle.model.specs.declared.Segment.{Segment}
 use Rattle.model.specs.declared.Head.{Head}
 use Rattle.model.specs.declared.Event.{Event}
 use Rattle.model.specs.Table.{segment_at, segments_from, table_of, valid}
-use Rattle.model.specs.Events.{units, loudest, quietest, last_ended, event_of, continues, continues_nearest, continuing, events_from}
+use Rattle.model.specs.Events.{units, loudest, quietest, last_ended, event_of, continues, continues_nearest, continuing, events_from, events_of}
 use Rattle.theorems.proofs.Tables.{Passed, tests_passed, valid_then, valid_from}
 use Rattle.joining.specs.Joining.{lengthened}
 use Rattle.grouping.specs.Places.{InRanges, earlier, begins, later, event_from, events_after, events_in}
+
+-- THE FIRST PLACES OF TWO COLUMNS
+
+same_segments : (keys heard : List ℕ) (n i m : ℕ) → i + m ≤ n → segments_from (take n keys) (take n heard) i m ≡ segments_from keys heard i m
+unfolding segments_from
+same_segments keys heard n i zero h = refl
+same_segments keys heard n i (suc m) h = rw (get_or-take n keys i 0 (omega arith), get_or-take n heard i 0 (omega arith)) (ap (λ (l : List Segment). segment_at keys heard i ∷ l) (same_segments keys heard n (suc i) m (omega arith)))
+
+pub same_events : (keys heard : List ℕ) (n m : ℕ) → m ≡ n → events_in (take n keys) (take n heard) m ≡ events_in keys heard n
+same_events keys heard n m e = rw e (ap events_of (same_segments keys heard n 0 n (omega arith)))
 
 -- AN EVENT AND SEGMENTS THAT CONTINUE IT
 
@@ -256,31 +268,21 @@ module _ (keys heard : List ℕ) where
 
   -- `count` events begin before place i
   pub record Counting (n i count : ℕ) : Type 0 where
-    pub reach : i ≤ n
     pub few : count ≤ i
     pub sum : count + length (events_after keys heard n i) ≡ length (events_in keys heard n)
 
   pub count_starts : (n : ℕ) → Counting n 0 0
-  count_starts n = record { reach = omega arith; few = omega arith; sum = omega (arith, ap length (all_after n)) }
+  count_starts n = record { few = omega arith; sum = omega (arith, ap length (all_after n)) }
 
   module _ (n i count : ℕ) (w : Counting n i count) where
     pub count_ends : n ≤ i → count ≡ length (events_in keys heard n)
     count_ends h = omega (arith, w.sum, ap length (none_after n i h))
 
-    module _ (less : i < n) (b : Bool) (is : b ≡ begins keys heard i) (m : ℕ) where
-      pub count_more : b ≡ true → m ≡ count + 1 → Counting n (i + 1) m
-      count_more e f = record {
-        reach = omega arith;
-        few = omega (arith, w.few);
-        sum = omega (arith, w.sum, ap length (begun n i less b is e));
-      }
-
-      pub count_same : b ≡ false → m ≡ count → Counting n (i + 1) m
-      count_same e f = record {
-        reach = omega arith;
-        few = omega (arith, w.few);
-        sum = omega (arith, w.sum, ap length (passed n i less b is e));
-      }
+    pub count_goes_on : i < n → (b : Bool) → b ≡ begins keys heard i → (m : ℕ) → m ≡ bool_byte b → Counting n (i + 1) (count + m)
+    count_goes_on less true is m e =
+        record { few = omega (arith, e, w.few); sum = omega (arith, e, w.sum, ap length (begun n i less true is refl)) }
+    count_goes_on less false is m e =
+        record { few = omega (arith, e, w.few); sum = omega (arith, e, w.sum, ap length (passed n i less false is refl)) }
 
 pub ruleset grouping = (
   rules,
@@ -296,6 +298,5 @@ pub ruleset grouping = (
   event_stops,
   count_starts,
   count_ends,
-  count_more,
-  count_same,
+  count_goes_on,
 )

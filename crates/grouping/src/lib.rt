@@ -1,8 +1,6 @@
-// Which segments of two columns make an event.
+// Which segments that a table holds make an event.
 #![tactic(auto)]
 
-mod event;
-mod segments;
+mod held;
 
-pub use event::event_from;
-pub use segments::{begins_at, count_of};
+pub use held::Held;

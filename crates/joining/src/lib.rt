@@ -6,29 +6,23 @@ ghost use Rattle.model.specs.Events.{continues, event_of};
 ghost use Rattle.joining.specs.Joining.{lengthened};
 
 use model::{Event, Segment};
-use segment::{larger, smaller};
 
-// Whether a segment s continues p, the nearest earlier one of its code.
+// Whether a segment s continues p, the nearest earlier one of its code. The sum is taken in 64 bits, where it cannot wrap.
 pub fn continues(p: Segment, s: Segment) -> bool
     ensures { result ≡ continues p s }
 {
-    if s.marked {
-        return false;
-    }
-    if p.ended {
-        return false;
-    }
-    (p.offset as u64) + (p.duration as u64) == (s.offset as u64)
+    !s.marked && !p.ended && u64::from(p.offset) + u64::from(p.duration) == u64::from(s.offset)
 }
 
 // The event of one segment that nothing continues.
+#[tactic(auto, unfolding(model::specs::Events::units, model::specs::Events::loudest, model::specs::Events::quietest, model::specs::Events::last_ended))]
 pub fn alone(first: Segment) -> Event
     ensures { (result ≡ event_of first []) × (result.length ≤ 65535) }
 {
     Event {
         code: first.code,
         start: first.offset,
-        length: first.duration as u32,
+        length: u32::from(first.duration),
         volume: first.volume,
         quietest: first.quietest,
         began: first.marked,
@@ -42,12 +36,10 @@ pub fn lengthened(v: Event, next: Segment) -> Event
     ensures { (result ≡ lengthened v next) × (result.length ≤ v.length + 65535) }
 {
     Event {
-        code: v.code,
-        start: v.start,
-        length: v.length + (next.duration as u32),
-        volume: smaller(v.volume as u32, next.volume as u32) as u8,
-        quietest: larger(v.quietest as u32, next.quietest as u32) as u8,
-        began: v.began,
+        length: v.length + u32::from(next.duration),
+        volume: v.volume.min(next.volume),
+        quietest: v.quietest.max(next.quietest),
         ended: next.ended,
+        ..v
     }
 }

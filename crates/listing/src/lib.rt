@@ -2,104 +2,76 @@
 // standard error, where nothing else is said; a capture that cannot be read to its end is not listed.
 #![tactic(auto)]
 
-ghost use Rattle.std.specs.Prelude.{◌≡◌, true};
+ghost use Rattle.std.specs.Prelude.{◌≡◌, ◌≤◌, true, length, IfOk};
 ghost use Rattle.model.specs.Table.{valid};
 
-mod faults;
+mod bad_session;
 
-use input::Reading;
+use bad_session::BadSession;
 use model::Table;
-use printing::bad_session;
+use printing::complain;
 use session::{Session, session_of};
-use std::fs;
-use std::io::{Read, Result};
+use std::io::Read;
 use std::os::fd::AsRawFd;
+use std::{fs, io};
 
-// Lists what an opened table holds after a capture.
-fn list_into<R: Print + Eprint + AllocGlobal, C: Read>(rt: &R, t: Table, capture: &mut C)
-    requires { valid t ≡ true }
+// Reads a file to its end, or as far as there is room.
+fn read<F: Read + Drop>(file: io::Result<F>, text: &mut [u8]) -> io::Result<usize>
+    ensures { IfOk result (λ bytes. bytes ≤ length text.new) }
 {
-    let head = t.head;
-    let mut keys = t.keys;
-    let mut heard = t.heard;
-    let got = pieces::received(head, &mut keys, &mut heard, capture);
-    if let Some(why) = got.failed {
-        faults::no_capture(rt, why);
-        return;
-    }
-    printing::listing(rt, got.so_far, &keys, &heard);
+    let mut file = file?;
+    Ok(input::read_full(&mut file, text)?)
 }
 
-fn list_opened<R: Print + Eprint + AllocGlobal, C: Read + Drop>(
-    rt: &R,
-    t: Table,
-    capture: Result<C>,
-)
-    requires { valid t ≡ true }
+// The table that is opened for a session; numbers that open refuses are bad.
+#[tactic(auto, using(crate::proofs::Laws::opened_valid))]
+fn opened<S: Read + Drop>(session: io::Result<S>) -> Result<Table, BadSession>
+    ensures { IfOk result (λ t. valid t ≡ true) }
 {
-    match capture {
-        Ok(mut frames) => list_into(rt, t, &mut frames),
-        Err(why) => faults::no_capture(rt, why),
-    }
-}
-
-// Lists the keys of a capture for the three numbers of a session; numbers that open refuses are bad.
-fn list_session<R: Print + Eprint + AllocGlobal, C: Read + Drop>(
-    rt: &R,
-    payload_type: u32,
-    ssrc: u32,
-    origin: u32,
-    capture: Result<C>,
-) {
+    let mut text = [0; 64];
+    let bytes = read(session, &mut text).map_err(BadSession::Unread)?;
+    let Session {
+        payload_type,
+        ssrc,
+        origin,
+    } = session_of(&text[..bytes]).map_err(BadSession::Line)?;
     let opened = opening::open(codes::keys(), payload_type, ssrc, origin);
     if opened.refusal != 0 {
-        faults::payload_type(rt);
-        bad_session(rt);
-        return;
+        return Err(BadSession::PayloadType);
     }
-    list_opened(rt, opened.table, capture);
+    Ok(opened.table)
 }
 
-// Lists a capture for the text of a session.
-fn list_text<R: Print + Eprint + AllocGlobal, C: Read + Drop>(
+// Lists what an opened table holds after a capture.
+fn list_capture<R: Print + Eprint + AllocGlobal, C: Read + Drop>(
     rt: &R,
-    text: &[u8],
-    capture: Result<C>,
-) {
-    let given = session_of(text);
-    match given {
-        Session::Given {
-            payload_type,
-            ssrc,
-            origin,
-        } => list_session(rt, payload_type, ssrc, origin, capture),
-        Session::Bad { line, fault } => {
-            faults::wrong_line(rt, line, fault);
-            bad_session(rt);
-        }
-    }
+    t: Table,
+    capture: io::Result<C>,
+) -> io::Result<()>
+    requires { valid t ≡ true }
+{
+    let mut frames = capture?;
+    let mut keys = t.keys;
+    let mut heard = t.heard;
+    let so_far = pieces::received(t.head, &mut keys, &mut heard, &mut frames)?;
+    printing::listing(rt, so_far, &keys, &heard);
+    Ok(())
 }
 
 // Lists the events of a capture, both given as they were opened; a session that is bad in any way, or no file, is `session=bad`.
 pub fn list_events<R: Print + Eprint + AllocGlobal, S: Read + Drop, C: Read + Drop>(
     rt: &R,
-    session: Result<S>,
-    capture: Result<C>,
+    session: io::Result<S>,
+    capture: io::Result<C>,
 ) {
-    let mut text = [0u8; 64];
-    let got = match session {
-        Ok(mut file) => input::read_full(&mut file, &mut text),
-        Err(why) => Reading {
-            bytes: 0,
-            failed: Some(why),
-        },
-    };
-    if let Some(why) = got.failed {
-        faults::no_session(rt, why);
-        bad_session(rt);
-        return;
+    match opened(session) {
+        Ok(t) => {
+            if let Err(why) = list_capture(rt, t, capture) {
+                complain(rt, "the capture", why);
+            }
+        }
+        Err(bad) => bad.list(rt),
     }
-    list_text(rt, &text[0..got.bytes], capture);
 }
 
 // Lists the capture on standard input, with session.txt of the working directory.
@@ -108,7 +80,7 @@ pub fn run(rt: &HostRuntime) {
     if let Ok(file) = &session {
         // The lowest number is free only if standard input is closed.
         if file.as_raw_fd() == rt.stdin().as_raw_fd() {
-            faults::input_closed(rt);
+            let _ = eprintln!(rt; "list-events: standard input is closed");
             return;
         }
     }

@@ -17,8 +17,8 @@ use Rattle.model.specs.Redundant.{is_plain, of_type, arrival_of, reports_in}
 use Rattle.model.specs.Fits.{BytesFit}
 use Rattle.theorems.proofs.Walks.{walks, no_header, found_inside}
 use Rattle.locating.specs.declared.Located.{Located}
-use Rattle.locating.specs.Located.{first_step, Locates}
-use Rattle.locating.proofs.Whole.{is_accepted, header_read, carried, plain_ordered, plain_within, plain_report}
+use Rattle.locating.specs.Located.{cursor_in, plain_in, first_step, Locates}
+use Rattle.locating.proofs.Whole.{at_cursor, of_kind, header_read, carried, plain_ordered, plain_within, plain_report}
 
 -- THE REPORTS THAT ARE LEFT
 
@@ -72,9 +72,9 @@ ahead bs c (b ∷ rest) o s is = record {
 
 module _ (h : Head) (bs entries : List ℕ) (o : Located) (w : Locates h bs (length entries) o) where
   -- a packet with blocks
-  module _ (redundant : o.plain ≡ false) where
+  module _ (redundant : plain_in o ≡ false) where
     not_plain : is_plain h bs ≡ false
-    not_plain = sym (ap (λ (x : Located). x.plain) (is_accepted h bs (length entries) o w)) ∙ redundant
+    not_plain = sym (of_kind h bs (length entries) o w) ∙ redundant
 
     all_reports : reports_in h bs ≡ left h bs (blocks (payload bs))
     unfolding reports_in
@@ -86,20 +86,20 @@ module _ (h : Head) (bs entries : List ℕ) (o : Located) (w : Locates h bs (len
         let blocks_read : blocks_refusal (payload bs) ≡ 0 = sym (rw not_plain refl) ∙ carried h bs (length entries) o w in
         rw (header_read h bs (length entries) o w) blocks_read
 
-    cursor_at_first : o.cursor ≡ at_first bs
-    cursor_at_first = ap (λ (x : Located). x.cursor) (is_accepted h bs (length entries) o w) ∙ rw not_plain
+    cursor_at_first : (cursor_in o) ≡ at_first bs
+    cursor_at_first = at_cursor h bs (length entries) o w ∙ rw not_plain
 
     started : ((walk_start bs).refusal ≡ 0) × ((walk_start bs).cursor ≡ at_first bs)
     unfolding walk_start
     started = (rw unrefused, rw unrefused)
 
-    hands_out : HandsOut bs o.cursor (blocks (payload bs))
+    hands_out : HandsOut bs (cursor_in o) (blocks (payload bs))
     hands_out = subst (λ (c : Cursor). HandsOut bs c (blocks (payload bs))) (started.1 ∙ sym cursor_at_first) (walks bs started.0)
 
   -- a plain packet's one
-  module _ (plain : o.plain ≡ true) where
+  module _ (plain : plain_in o ≡ true) where
     abbrev only : BlockStep
-    only = primary_step o.cursor h.payload_type
+    only = primary_step (cursor_in o) h.payload_type
 
     only_one : Ahead bs only (block_of bs only ∷ [])
     unfolding HandsOut
@@ -120,9 +120,9 @@ module _ (h : Head) (bs entries : List ℕ) (o : Located) (w : Locates h bs (len
 
   pub begins : BytesFit bs → (s : BlockStep) → s ≡ first_step h.payload_type bs o → Begins s
   unfolding first_step
-  begins fit s is = go o.plain refl is
+  begins fit s is = go (plain_in o) refl is
     where
-      go : (b : Bool) → o.plain ≡ b → s ≡ cond b (primary_step o.cursor h.payload_type) (block_step bs o.cursor) → Begins s
+      go : (b : Bool) → plain_in o ≡ b → s ≡ cond b (primary_step (cursor_in o) h.payload_type) (block_step bs (cursor_in o)) → Begins s
       go true p q = rw q (record {
         rest = block_of bs (only p) ∷ [];
         stands = only_one p;
@@ -130,6 +130,6 @@ module _ (h : Head) (bs entries : List ℕ) (o : Located) (w : Locates h bs (len
       })
       go false p q = record {
         rest = blocks (payload bs);
-        stands = ahead bs o.cursor (blocks (payload bs)) (hands_out p) s q;
+        stands = ahead bs (cursor_in o) (blocks (payload bs)) (hands_out p) s q;
         reports = all_reports p;
       }

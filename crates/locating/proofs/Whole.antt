@@ -12,30 +12,43 @@ use Rattle.model.specs.declared.Head.{Head}
 use Rattle.model.specs.declared.BlockStep.{BlockStep}
 use Rattle.model.specs.Packet.{header_refusal, after_header, payload, timestamp, marker}
 use Rattle.model.specs.Receive.{offset, arrival_in}
-use Rattle.model.specs.Walk.{payload_ends, primary_step, block_step, part_of, block_of}
+use Rattle.model.specs.Walk.{cursor, payload_ends, primary_step, block_step, part_of, block_of}
 use Rattle.model.specs.Redundant.{is_plain, arrival_of, reports_in, carried_refusal, refusal_for_both, refusal_of_both}
 use Rattle.model.specs.Fits.{BytesFit}
 use Rattle.refusals.proofs.Tests.{passed, both_none}
 use Rattle.theorems.proofs.Packets.{header_passed, number32_fits}
 use Rattle.theorems.proofs.Walks.{payload_part, payload_within}
+use Rattle.std.specs.Prelude.{Option, Some}
+use Rattle.refusals.proofs.Told.{given}
+use Rattle.model.specs.declared.Cursor.{Cursor}
+use Rattle.blocks.specs.declared.step.Block.{Block}
+use Rattle.blocks.specs.Step.{step_of}
 use Rattle.locating.specs.declared.Located.{Located}
-use Rattle.locating.specs.Located.{located_in, unlocated, locating, first_step, Locates}
+use Rattle.locating.specs.declared.Located.TheVariants as located
+use Rattle.locating.specs.Located.{nowhere, located_at, cursor_in, plain_in, body_of, located_in, locating, first_step, Locates}
 
 -- A PACKET THAT WAS LOCATED
 
 module _ (h : Head) (bs : List ℕ) (room : ℕ) (o : Located) (w : Locates h bs room o) where
-  pub unrefused : refusal_of_both h bs room ≡ 0
+  accepted : (refusal_of_both h bs room ≡ 0) × (o ≡ located_in h bs)
   unfolding locating
-  unrefused = go (eqb (refusal_of_both h bs room) 0) refl (sym (ap (λ (x : Located). x.refusal) w.is) ∙ w.unrefused)
-    where
-      go : (b : Bool) → eqb (refusal_of_both h bs room) 0 ≡ b
-          → (cond {A = Located} b (located_in h bs) (unlocated (refusal_of_both h bs room))).refusal ≡ 0 → refusal_of_both h bs room ≡ 0
-      go true e q = eqb-true (refusal_of_both h bs room) 0 e
-      go false e q = q
+  accepted = given (refusal_of_both h bs room) nowhere (located_in h bs) o w.is
 
-  pub is_accepted : o ≡ located_in h bs
-  unfolding locating
-  is_accepted = w.is ∙ rw unrefused
+  pub unrefused : refusal_of_both h bs room ≡ 0
+  unrefused = accepted.0
+
+  its_kind : (b : Bool) (c : Cursor) → (cursor_in (located_at b c) ≡ c) × (plain_in (located_at b c) ≡ b)
+  its_kind true c = (refl, refl)
+  its_kind false c = (refl, refl)
+
+  abbrev its_cursor : Cursor
+  its_cursor = cursor (after_header bs) (body_of h bs) (payload_ends bs)
+
+  pub at_cursor : cursor_in o ≡ its_cursor
+  at_cursor = ap cursor_in accepted.1 ∙ (its_kind (is_plain h bs) its_cursor).0
+
+  pub of_kind : plain_in o ≡ is_plain h bs
+  of_kind = ap plain_in accepted.1 ∙ (its_kind (is_plain h bs) its_cursor).1
 
   -- nothing refuses it: its header, its blocks, and there are entries enough
   read : header_refusal bs ≡ 0
@@ -64,18 +77,18 @@ module _ (h : Head) (bs : List ℕ) (room : ℕ) (o : Located) (w : Locates h bs
 -- A PLAIN PACKET
 
 -- its one block
-module _ (h : Head) (bs : List ℕ) (room : ℕ) (o : Located) (w : Locates h bs room o) (plain : o.plain ≡ true) where
+module _ (h : Head) (bs : List ℕ) (room : ℕ) (o : Located) (w : Locates h bs room o) (plain : plain_in o ≡ true) where
   abbrev step : BlockStep
-  step = primary_step o.cursor h.payload_type
+  step = primary_step (cursor_in o) h.payload_type
 
   is_plain_lem : is_plain h bs ≡ true
-  is_plain_lem = sym (ap (λ (x : Located). x.plain) (is_accepted h bs room o w)) ∙ plain
+  is_plain_lem = sym (of_kind h bs room o w) ∙ plain
 
-  starts : o.cursor.body ≡ after_header bs
-  starts = ap (λ (x : Located). x.cursor.body) (is_accepted h bs room o w) ∙ rw is_plain_lem
+  starts : (cursor_in o).body ≡ after_header bs
+  starts = ap (λ (c : Cursor). c.body) (at_cursor h bs room o w) ∙ rw is_plain_lem
 
-  ends : o.cursor.end ≡ payload_ends bs
-  ends = ap (λ (x : Located). x.cursor.end) (is_accepted h bs room o w)
+  ends : (cursor_in o).end ≡ payload_ends bs
+  ends = ap (λ (c : Cursor). c.end) (at_cursor h bs room o w)
 
   pub plain_ordered : step.start ≤ step.end
   plain_ordered = omega (arith, starts, ends)
@@ -100,13 +113,13 @@ module _ (h : Head) (bs : List ℕ) (room : ℕ) (o : Located) (w : Locates h bs
     plain_report = rw is_plain_lem (λ i. record { timestamp = sym own_time i; marked = sym (counts (marker bs)) i; payload = sym its_payload i } ∷ [])
 
 -- its first block
-module _ (type : ℕ) (bs : List ℕ) (o : Located) (s : BlockStep) where
-  pub first_plain : o.plain ≡ true → s ≡ primary_step o.cursor type → s ≡ first_step type bs o
+module _ (type : ℕ) (bs : List ℕ) (o : Located) (c : Cursor) where
+  pub first_plain : o ≡ located.Plain c → (b : Block) → step_of c (Some b) ≡ primary_step c type → step_of (cursor_in o) (Some b) ≡ first_step type bs o
   unfolding first_step
-  first_plain p e = rw p e
+  first_plain p b e = rw p e
 
-  pub first_carried : o.plain ≡ false → s ≡ block_step bs o.cursor → s ≡ first_step type bs o
+  pub first_carried : o ≡ located.Redundant c → (b : Option Block) → step_of c b ≡ block_step bs c → step_of (cursor_in o) b ≡ first_step type bs o
   unfolding first_step
-  first_carried p e = rw p e
+  first_carried p b e = rw p e
 
 pub ruleset FirstBlock = (rules, first_plain, first_carried)

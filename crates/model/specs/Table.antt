@@ -47,11 +47,14 @@ abbrev pub empty_table : Head → Table
 empty_table h = record { head = h; keys = replicate 128 0; heard = replicate 128 0 }
 
 -- a refused open returns an empty table of zeros, with the empty set
+abbrev pub no_table : Table
+no_table = empty_table (one_type empty_set 0 0 0)
+
 abbrev pub opened_if : Bool → Head → Opened
 opened_if in_range h =
     cond in_range
     (record { table = empty_table h; refusal = none })
-    (record { table = empty_table (one_type empty_set 0 0 0); refusal = out_of_range })
+    (record { table = no_table; refusal = out_of_range })
 
 -- the first opening: a set that is not empty, a payload type up to 127
 abbrev pub opened : Codes → ℕ → ℕ → ℕ → Opened

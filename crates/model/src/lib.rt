@@ -14,7 +14,7 @@ pub struct Codes {
 // One report on the wire: an RTP packet that carries one telephone event (RFC 3550, 5.1; RFC 4733, 2.3).
 // Numbers with a range narrower than their type are tested by whoever takes a Report.
 #[repr(C)]
-#[derive(Clone, Copy)]
+#[derive(Clone, Copy, PartialEq, Eq)]
 pub struct Report {
     pub marker: bool,
     pub payload_type: u32,

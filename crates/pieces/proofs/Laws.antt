@@ -12,7 +12,7 @@ use Rattle.theorems.proofs.Packets.{bytes_fit, fits_parts}
 use Rattle.theorems.proofs.Captures.{captured_within, unused_short, of_empty, in_pieces}
 use Rattle.pieces.specs.declared.counts.Counts.{Counts}
 use Rattle.pieces.specs.declared.SoFar.{SoFar}
-use Rattle.pieces.specs.Input.{counted, added, GoesOn, joined, HasReceived}
+use Rattle.pieces.specs.Input.{counted, added, GoesOn, joined}
 use Rattle.input.specs.Buffer.{Refills, Keeps}
 
 -- COUNTING
@@ -30,30 +30,23 @@ fit_first : (n : ℕ) (b : List ℕ) → ((i : ℕ) → Fits w8 (get_or b i 0)) 
 fit_first n b f = (fits_parts n b (bytes_fit b f)).0
 
 module _ (s : SoFar) (keys heard b : List ℕ) (n : ℕ) (inside : n ≤ length b) (a : Captured)
-    (answer : a ≡ (receive_capture (table_of s.head keys heard) (take (n - 0) (drop 0 b))).answer) where
-  whole : take (n - 0) (drop 0 b) ≡ take n b
-  whole = let z : n - 0 ≡ n = omega arith in rw z
-
+    (answer : a ≡ (receive_capture (table_of s.head keys heard) (take n b)).answer) where
   pub used_inside : a.used ≤ n
   used_inside =
-      let within = captured_within (table_of s.head keys heard) (take (n - 0) (drop 0 b)) in
-      omega (arith, ap (λ (x : Captured). x.used) answer, within, ap length whole, length-take-le n b inside)
+      omega (arith, ap (λ (x : Captured). x.used) answer, captured_within (table_of s.head keys heard) (take n b), length-take-le n b inside)
 
   pub went_on : ((i : ℕ) → Fits w8 (get_or b i 0)) → (keys' heard' : List ℕ)
-      → table_of (holding a.count s.head) keys' heard' ≡ (receive_capture (table_of s.head keys heard) (take (n - 0) (drop 0 b))).table
+      → table_of (holding a.count s.head) keys' heard' ≡ (receive_capture (table_of s.head keys heard) (take n b)).table
       → (c : Counts) → c ≡ added s.counts a → (many : ℕ) (b' : List ℕ) → Keeps a.used n b many b'
       → GoesOn s keys heard b n (record { head = holding a.count s.head; counts = c; left = many }) keys' heard' b'
   went_on f keys' heard' table c e many b' k =
-      let u = table_of s.head keys heard in
-      let same = ap (λ (bs : List ℕ). receive_capture u bs) whole in
-      let x : a ≡ (receive_capture u (take n b)).answer = answer ∙ (λ i. (same i).answer) in
       record {
         same = k.same;
         bytes = fit_first n b f;
-        table = table ∙ (λ i. (same i).table);
-        counts = e ∙ ap (added s.counts) x;
+        table = table;
+        counts = e ∙ ap (added s.counts) answer;
         within = k.within;
-        left = k.front ∙ ap (λ (y : Captured). unused y (take n b)) x;
+        left = k.front ∙ ap (λ (y : Captured). unused y (take n b)) answer;
       }
 
 pub ruleset GoingOn = (rules, used_inside, went_on)
@@ -128,21 +121,21 @@ pub record Listens (t : Table) (s : SoFar) (keys heard b : List ℕ) : Type 0 wh
   pub pieces : List (List ℕ)
   pub stands : Stands t (joined pieces) s keys heard b
 
-pub begins : (h : Head) (keys heard b : List ℕ) → valid (table_of h keys heard) ≡ true → 131072 ≡ length b
-    → Listens (table_of h keys heard) (record { head = h; counts = record { taken = 0; refused = 0; packed = 0 }; left = 0 }) keys heard b
+pub begins : (h : Head) (keys heard b : List ℕ) (none : Counts) → (none.taken ≡ 0) × ((none.refused ≡ 0) × (none.packed ≡ 0))
+    → valid (table_of h keys heard) ≡ true → 131072 ≡ length b → Listens (table_of h keys heard) (record { head = h; counts = none; left = 0 }) keys heard b
 unfolding joined
-begins h keys heard b v long =
-    let none = sym (of_empty (table_of h keys heard) v) in
+begins h keys heard b none zero v long =
+    let nothing = sym (of_empty (table_of h keys heard) v) in
     record {
       passes = v;
       long = sym long;
       pieces = [];
       stands = record {
         bytes = λ x m. absurd (Memᴰ.not-nil m);
-        table = λ i. (none i).table;
-        counts = λ i. counted (none i).answer;
+        table = λ i. (nothing i).table;
+        counts = (λ i. record { taken = zero.0 i; refused = zero.1.0 i; packed = zero.1.1 i }) ∙ (λ i. counted (nothing i).answer);
         within = omega arith;
-        left = λ i. unused (none i).answer [];
+        left = λ i. unused (nothing i).answer [];
       };
     }
 
@@ -150,9 +143,6 @@ module _ (t : Table) (s : SoFar) (keys heard b : List ℕ) (w : Listens t s keys
   -- a part of one frame is left, so there is room to read more
   pub room_left : s.left < length b
   room_left = omega (arith, many_left t (joined w.pieces) s keys heard b w.stands, w.long, unused_short t (joined w.pieces) w.passes w.stands.bytes)
-
-  pub all_pieces : HasReceived t s keys heard
-  all_pieces = record { pieces = w.pieces; table = w.stands.table; counts = w.stands.counts; left = many_left t (joined w.pieces) s keys heard b w.stands }
 
   module _ (n : ℕ) (b' : List ℕ) (r : Refills s.left b n b') where
     pub one_came : (s' : SoFar) (keys' heard' b'' : List ℕ) → GoesOn s keys heard b' (s.left + n) s' keys' heard' b'' → Listens t s' keys' heard' b''
@@ -165,5 +155,3 @@ module _ (t : Table) (s : SoFar) (keys heard b : List ℕ) (w : Listens t s keys
           pieces = w.pieces ++ (p ∷ []);
           stands = rw (joined_one_more w.pieces p) (one_more t input s keys heard b w.stands n b' r s' keys' heard' b'' g);
         }
-
-pub ruleset listening = (rules, begins, room_left, all_pieces, one_came)

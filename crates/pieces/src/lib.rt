@@ -1,7 +1,7 @@
 // A capture, read in pieces into a buffer that stays the same, and received piece by piece.
 #![tactic(auto)]
 
-ghost use Rattle.std.specs.Prelude.{◌≡◌, ◌≤◌, true, length};
+ghost use Rattle.std.specs.Prelude.{◌≡◌, ◌≤◌, true, length, MatchResult};
 ghost use Rattle.model.specs.Table.{table_of, valid};
 ghost use Rattle.pieces.specs.Input.{GoesOn, HasReceived};
 
@@ -9,8 +9,7 @@ mod counts;
 
 use capture::receive_capture;
 pub use counts::Counts;
-use counts::added;
-use input::{keep, refill};
+use input::{Broken, keep, refill};
 use model::Head;
 use std::io::{Error, ErrorKind, Read};
 
@@ -21,13 +20,6 @@ pub struct SoFar {
     pub head: Head,
     pub counts: Counts,
     pub left: usize,
-}
-
-// All that was received of an input, up to its end or to a read that failed, and why that failed.
-#[derive(Clone, Copy)]
-pub struct Arrived {
-    pub so_far: SoFar,
-    pub failed: Option<Error>,
 }
 
 // Room for the longest frame, 65,537 bytes, and as much to read ahead.
@@ -49,51 +41,45 @@ fn go_on(
     ensures { GoesOn so_far keys.old heard.old b.old n result keys.new heard.new b.new }
 {
     let mut head = so_far.head;
-    let got = receive_capture(head, keys, heard, &b[0..n]);
+    let got = receive_capture(head, keys, heard, &b[..n]);
     head.count = got.count;
     SoFar {
-        head: head,
-        counts: added(so_far.counts, got),
+        head,
+        counts: so_far.counts.added(got),
         left: keep(b, got.used, n),
     }
 }
 
-// Reads a capture, and receives its frames. What is left in the buffer after a pass is a part of one frame, so there
-// is always room to read more.
+// Reads a capture up to its end or to a read that fails, and receives its frames. What is left in the buffer after a pass is a part of
+// one frame, so there is always room to read more.
 pub fn received<R: Read>(
     head: Head,
     keys: &mut [u64; 128],
     heard: &mut [u32; 128],
     input: &mut R,
-) -> Arrived
+) -> Result<SoFar, Broken<SoFar>>
     requires { valid (table_of head keys.old heard.old) ≡ true }
-    ensures { HasReceived (table_of head keys.old heard.old) result.so_far keys.new heard.new }
+    ensures { MatchResult result (λ so_far. HasReceived (table_of head keys.old heard.old) so_far keys.new heard.new) (λ broken. HasReceived (table_of head keys.old heard.old) broken.before keys.new heard.new) }
 {
-    let mut space = buffer();
-    let b: &mut [u8] = &mut space;
-    let none = Counts {
-        taken: 0,
-        refused: 0,
-        packed: 0,
-    };
+    let mut b = buffer();
     let mut so_far = SoFar {
-        head: head,
-        counts: none,
+        head,
+        counts: Counts::default(),
         left: 0,
     };
     for _ in 0..u64::MAX {
         let from = so_far.left;
-        let got = refill(input, b, from);
-        if got.bytes == 0 {
-            return Arrived {
-                so_far: so_far,
-                failed: got.failed,
-            };
+        match refill(input, &mut b, from) {
+            Ok(0) => return Ok(so_far),
+            Ok(bytes) => so_far = go_on(so_far, keys, heard, &mut b, from + bytes),
+            Err(why) => return Err(Broken {
+                before: so_far,
+                why,
+            }),
         }
-        so_far = go_on(so_far, keys, heard, b, from + got.bytes);
     }
-    Arrived {
-        so_far: so_far,
-        failed: Some(Error::from(ErrorKind::TimedOut)),
-    }
+    Err(Broken {
+        before: so_far,
+        why: Error::from(ErrorKind::TimedOut),
+    })
 }

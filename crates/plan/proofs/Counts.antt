@@ -1,100 +1,20 @@
--- How many reports a segment and an event have, and that each number fits its type.
-use Prim.Native.Nat.{ℕ, ◌+◌, ◌-◌, ◌*◌, ◌%◌, ◌<◌, ◌≤◌}
+-- How many reports a plan has: the closed form of the length of its list (`length_reports`).
+use Prim.Native.Nat.{ℕ, ◌+◌, ◌-◌, ◌*◌, ◌%◌, ◌≤◌}
 use mathlib.Core.Path.{◌≡◌}
-use mathlib.Core.Bool.{Bool, true, false, not}
-use native.Mathlib.Omega.{arith}
-use native.Mathlib.Nat.{div-le_self, mul-le-mul_right, mod-lt}
+use mathlib.Core.Bool.{true}
 use lib.ListN.{length}
-use mir.Syntax.{w32}
-use mir.Val.{Fits}
-use borrow.Author.Tests.{not-true, not-false}
-use Rattle.model.specs.declared.Codes.{Codes}
 use Rattle.model.specs.declared.Plan.{Plan}
-use Rattle.model.specs.declared.CountAnswer.TheVariants.{Reports, Refused}
-use Rattle.model.specs.Answers.{told_count}
-use Rattle.model.specs.Plan.{full_segments, rest_units, lengths_in_range, plan_in_range, report_count, reports}
-use Rattle.theorems.proofs.Sends.{length_ranges}
+use Rattle.model.specs.Plan.{full_segments, lengths_in_range, reports}
 use Rattle.plan_formulas.specs.Formula.{interim_count}
 use Rattle.plan_formulas.proofs.Laws.{length_reports}
-use Rattle.plan_formulas.proofs.InRange.{some_length, some_size, size_fits, few_full, in_ranges}
-use Rattle.plan.proofs.Ranges.{passed}
 use Rattle.plan_formulas.proofs.Places.{one_counted}
 
--- the reports of a segment
-pub few_more : (units period n m : ℕ) → n ≡ interim_count period units → m ≤ 3 → units ≤ 65535 → Fits w32 (n + m)
-few_more units period n m interim l h = record { fits = omega (arith, div-le_self (units - 1) period) }
+module _ (p : Plan) where
+  pub one_segment : lengths_in_range p ≡ true → p.length ≤ p.segment_size
+      → (n : ℕ) → n ≡ interim_count p.period p.length → n + 3 ≡ length (reports p)
+  one_segment h one n e = rw (length_reports p) (one_counted p h one n e)
 
--- the event cut into segments
-module _ (p : Plan) (h : lengths_in_range p ≡ true) where
-  pub within_16 : p.length - 1 < p.segment_size * 16
-  within_16 = omega (arith, (length_ranges p h).most, some_length p h)
-
-  pub size_in_width : p.segment_size * 16 < 0x1_0000_0000
-  size_in_width = omega (arith, size_fits p h)
-
-  rest_fits : rest_units p ≤ 65535
-  rest_fits = omega (arith, mod-lt (p.length - 1) (some_size p h), size_fits p h)
-
-  module _ (r m : ℕ) (rest : r ≡ (p.length - 1) % p.segment_size) (one : m ≤ 1) where
-    pub last_narrow : r + m ≤ 65535
-    last_narrow = omega (arith, rest_fits)
-
-    pub last_fits : Fits w32 (r + m)
-    last_fits = record { fits = omega (arith, rest_fits) }
-
-module _ (p : Plan) (h : lengths_in_range p ≡ true) (one : p.length ≤ p.segment_size) where
-  pub one_narrow : p.length ≤ 65535
-  one_narrow = omega (arith, size_fits p h)
-
-  pub one_segment : (n : ℕ) → n ≡ interim_count p.period p.length → n + 3 ≡ length (reports p)
-  one_segment n e = rw (length_reports p) (one_counted p h one n e)
-
-module _ (p : Plan) (h : lengths_in_range p ≡ true) (n : ℕ) (each : n ≡ interim_count p.period p.segment_size) where
-  per_narrow : n + 3 ≤ 65537
-  per_narrow = omega (arith, div-le_self (p.segment_size - 1) p.period, size_fits p h)
-
-  pub per_in_width : (n + 3) * 16 < 0x1_0000_0000
-  per_in_width = omega (arith, per_narrow)
-
-  module _ (q : ℕ) (full : q ≡ full_segments p) where
-    full_reports : q * (n + 3) ≤ 983055
-    full_reports =
-        let few : q ≤ 15 = omega (arith, few_full p h) in
-        omega (arith, mul-le-mul_right (n + 3) few, per_narrow)
-
-    pub full_fit : Fits w32 (q * (n + 3))
-    full_fit = record { fits = omega (arith, full_reports) }
-
-    module _ (r m : ℕ) (rest : r ≡ (p.length - 1) % p.segment_size) (last : m ≡ interim_count p.period (r + 1)) where
-      pub all_fit : Fits w32 (q * (n + 3) + (m + 3))
-      all_fit =
-          record { fits = omega (arith, full_reports, div-le_self (r + 1 - 1) p.period, last_narrow p h r 1 rest (omega arith)) }
-
-      pub all_counted : q * (n + 3) + (m + 3) ≡ length (reports p)
-      all_counted = rw (length_reports p, full, each, last, rest)
-
-module _ (codes : Codes) (p : Plan) (b : Bool) (tested : b ≡ plan_in_range codes p) where
-  pub refused : not b ≡ true → told_count (Refused 12) ≡ report_count codes p
-  refused h = rw (← tested, not-true b h)
-
-  pub all_told : not b ≡ false → (n : ℕ) → n ≡ length (reports p) → told_count (Reports n) ≡ report_count codes p
-  all_told h n e = rw (← tested, not-false b h, e)
-
-pub ruleset counting = (
-  in_ranges,
-  within_16,
-  size_in_width,
-  last_narrow,
-  last_fits,
-  few_more,
-  one_narrow,
-  one_segment,
-  full_fit,
-  all_fit,
-  all_counted,
-  refused,
-  passed,
-  all_told,
-)
-
-pub ruleset full_segments_lem = (in_ranges, few_more, per_in_width)
+  pub all_counted : (n : ℕ) → n ≡ interim_count p.period p.segment_size → (q : ℕ) → q ≡ full_segments p
+      → (r m : ℕ) → r ≡ (p.length - 1) % p.segment_size → m ≡ interim_count p.period (r + 1)
+      → q * (n + 3) + (m + 3) ≡ length (reports p)
+  all_counted n each q full r m rest last = rw (length_reports p, full, each, last, rest)

@@ -36,7 +36,6 @@ use Rattle.plan_formulas.specs.Formula.{
   interim_count,
   report_count_in,
   duration_at,
-  at_most,
   ended_at,
   per_full,
   report_total,
@@ -201,17 +200,11 @@ module _ (p : Plan) where
 
       module _ (within : j ≤ full_segments p) where
         units_as : units_at p j ≡ units_of (full_segments p) j
-        unfolding at_most
-        units_as = go (dec_lt j (full_segments p)) (dec_lt (units_left p j) p.segment_size)
+        units_as = go (dec_lt j (full_segments p))
           where
-            go : Dec (j < full_segments p) → Dec (units_left p j < p.segment_size)
-                → cond (ltb (units_left p j) p.segment_size) (units_left p j) p.segment_size ≡ units_of (full_segments p) j
-            go (yes l) _ = rw (lt-ltb j (full_segments p) l, le-ltb (units_left p j) p.segment_size (omega (arith, more_left l)))
-            go (no l) (yes m) =
-                rw (le-ltb j (full_segments p) (omega arith), lt-ltb (units_left p j) p.segment_size m) (rest_left (omega arith))
-            go (no l) (no m) =
-                let e : p.segment_size ≡ rest_units p = omega (arith, rest_left (omega arith), rest_at_most) in
-                rw (le-ltb j (full_segments p) (omega arith), le-ltb (units_left p j) p.segment_size (omega arith)) e
+            go : Dec (j < full_segments p) → units_at p j ≡ units_of (full_segments p) j
+            go (yes l) = rw (lt-ltb j (full_segments p) l) (omega (arith, more_left l))
+            go (no l) = rw (le-ltb j (full_segments p) (omega arith)) (omega (arith, rest_left (omega arith), rest_at_most))
 
         ends : (i : ℕ) → (not (ltb j (full_segments p)) && ltb (interim_count p.period (units_of (full_segments p) j)) i)
             ≡ ended_at p.segment_size p.period (units_left p j) i

@@ -5,10 +5,10 @@ use mathlib.Core.Bool.{true, false, and-false}
 use native.Mathlib.Omega.{arith}
 use native.Mathlib.Nat.{div-eq_of_lt, mod-eq_of_lt, mod-lt, div-lt_iff_lt-mul, div-add-mod', mul-le-mul_right}
 use native.Mathlib.Decide.{dec_lt}
-use borrow.Author.Tests.{lt-ltb, le-ltb}
+use borrow.Author.Tests.{le-ltb}
 use Rattle.model.specs.declared.Plan.{Plan}
 use Rattle.model.specs.Plan.{full_segments, rest_units, lengths_in_range}
-use Rattle.plan_formulas.specs.Formula.{interim_count, report_count_in, has_report, at_most, per_full, report_total, place_of, units_at, Stands}
+use Rattle.plan_formulas.specs.Formula.{interim_count, report_count_in, has_report, per_full, report_total, place_of, units_at, Stands}
 use Rattle.plan_formulas.proofs.Laws.{none_left, last_units, last_at_most}
 use Rattle.plan_formulas.proofs.InRange.{some_length, some_size, some_period, few_full}
 
@@ -34,8 +34,7 @@ module _ (p : Plan) (h : lengths_in_range p ≡ true) where
   total_narrow = omega (arith, mul-le-mul_right (per_full p) (few_full p h), fewer)
 
   none_after : (j : ℕ) → full_segments p < j → (i : ℕ) → has_report p.period (units_at p j) i ≡ false
-  unfolding at_most
-  none_after j l i = rw (none_left p some long j l, lt-ltb 0 p.segment_size some) (none_in_none p.period i)
+  none_after j l i = let z : units_at p j ≡ 0 = omega (arith, none_left p some long j l) in rw z (none_in_none p.period i)
 
   -- one segment alone
   module _ (one : p.length ≤ p.segment_size) where
@@ -89,13 +88,8 @@ module _ (p : Plan) (h : lengths_in_range p ≡ true) where
                 (none_past p.period (rest_units p) (i % per_full p) (omega (arith, parts, ap (λ (n : ℕ). n * per_full p) e)))
 
     module _ (n : ℕ) (each : n ≡ interim_count p.period p.segment_size) where
-      pub in_no_segment : (n + 3) * 16 ≤ i → Stands p i (record { segment = 16; index = 0 })
-      in_no_segment high =
-          record {
-            few = omega arith;
-            its_own = λ l. absurd (omega (arith, total_narrow));
-            or_none = λ l. none_after 16 (omega (arith, few_full p h)) 0;
-          }
+      pub in_no_segment : (n + 3) * 16 ≤ i → report_total p ≤ i
+      in_no_segment high = omega (arith, total_narrow)
 
       pub in_a_segment : i < (n + 3) * 16 → (q r : ℕ) → q ≡ i / (n + 3) → r ≡ i % (n + 3) → Stands p i (record { segment = q; index = r })
       in_a_segment low q r e f = rw (e, f, each) (by_division (omega arith))

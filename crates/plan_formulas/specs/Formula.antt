@@ -1,6 +1,6 @@
 -- The plan by formula, with no list: how many reports a segment and an event have, and what a report says. Segments,
 -- reports and places are counted from 0. proofs/Laws.antt shows that the formulas give the model's lists.
-use Rattle.std.specs.Prelude.{ℕ, ◌+◌, ◌-◌, ◌*◌, ◌/◌, ◌%◌, ◌≤◌, ◌<◌, ◌≡◌, Bool, false, not, cond, ◌&&◌, ltb, eqb}
+use Rattle.std.specs.Prelude.{ℕ, ◌+◌, ◌-◌, ◌*◌, ◌/◌, ◌%◌, ◌≤◌, ◌<◌, ◌≡◌, Bool, false, not, cond, ◌&&◌, ltb, eqb, min}
 use Rattle.model.specs.declared.Plan.{Plan}
 use Rattle.model.specs.declared.Segment.{Segment}
 use Rattle.model.specs.Plan.{segment, full_segments, rest_units}
@@ -23,10 +23,6 @@ module _ (period : ℕ) where
   unfoldable pub duration_at : ℕ → ℕ → ℕ
   duration_at units i = cond (ltb i (interim_count units)) ((i + 1) * period) units
 
--- the units of a segment, if so many are left of the event
-unfoldable pub at_most : ℕ → ℕ → ℕ
-at_most size left = cond (ltb left size) left size
-
 -- E stands on the second and third report at the end of the last segment: the one after which nothing is left
 unfoldable pub ended_at : ℕ → ℕ → ℕ → ℕ → Bool
 ended_at size period left i = not (ltb size left) && ltb (interim_count period left) i
@@ -48,11 +44,11 @@ module _ (p : Plan) where
   units_left j = p.length - j * p.segment_size
 
   abbrev pub units_at : ℕ → ℕ
-  units_at j = at_most p.segment_size (units_left j)
+  units_at j = min (units_left j) p.segment_size
 
   -- a place found for report i: its own, or one with no report if the plan has no such one
   pub record Stands (i : ℕ) (at : Place) : Type 0 where
-    pub few : at.segment ≤ 16
+    pub few : at.segment ≤ 15
     pub its_own : i < report_total → at ≡ place_of i
     pub or_none : report_total ≤ i → has_report p.period (units_at at.segment) at.index ≡ false
 

@@ -1,25 +1,26 @@
 -- Writing report k of a plan: for each way through its refusals what is answered, and the output after it. Past them the
 -- packet's own writer does the rest, since every report of a plan is in range.
-use Prim.Native.Nat.{ℕ, ◌+◌, ◌-◌, ◌≤◌, ◌<◌}
+use Prim.Native.Nat.{ℕ, ◌≤◌, ◌<◌}
 use mathlib.Core.Path.{◌≡◌, sym, ◌∙◌}
-use mathlib.Core.Bool.{Bool, true, false, not}
+use mathlib.Core.Bool.{Bool, true, false, not, ◌||◌}
 use mathlib.Core.List.{List}
 use native.Mathlib.Omega.{arith}
+use native.Mathlib.Decide.{dec_lt}
+use lib.Dec.{ltb, eqb}
 use lib.ListN.{length}
 use borrow.Author.Tests.{not-true, not-false, eq-eqb, ne_eqb, lt-ltb, le-ltb}
+use Rattle.std.specs.Prelude.{Result, Option, Some, None, Err, SomeIff}
+use Rattle.std.specs.Option.{ok_or}
 use Rattle.model.specs.declared.Codes.{Codes}
 use Rattle.model.specs.declared.Report.{Report}
 use Rattle.model.specs.declared.Plan.{Plan}
-use Rattle.refusals.specs.Refusals.{Told, refused_by}
+use Rattle.refusals.specs.declared.Refusal.{Refusal}
+use Rattle.refusals.specs.declared.Refusal.TheVariants.{NoSuchNumber}
+use Rattle.refusals.specs.Refusals.{Told, refused_by, number_of}
 use Rattle.model.specs.Packet.{report_in_range, write}
 use Rattle.model.specs.Plan.{plan_in_range, reports, report_at, write_report}
 use Rattle.theorems.proofs.Sends.{plan_ranges, report_in_range_lem}
-use Rattle.plan_formulas.specs.declared.Place.{Place}
-use Rattle.plan_formulas.specs.Formula.{Stands, units_left, at_most, has_report}
-use Rattle.plan_formulas.proofs.Laws.{length_reports}
 use Rattle.plan_formulas.proofs.InRange.{in_ranges}
-use Rattle.plan.proofs.Ranges.{passed}
-use Rattle.plan_report.proofs.Reports.{at_most_size, has_number, its_place, has_no_number}
 
 module _ (codes : Codes) (p : Plan) (k : ℕ) (output : List ℕ) (b : Bool) (tested : b ≡ plan_in_range codes p) where
   module _ (h : not b ≡ true) where
@@ -35,59 +36,54 @@ module _ (codes : Codes) (p : Plan) (k : ℕ) (output : List ℕ) (b : Bool) (te
     range : plan_in_range codes p ≡ true
     range = sym tested ∙ not-false b h
 
-    module _ (e : k ≡ 0) where
-      pub number_none : refused_by 13 tt ≡ (write_report codes p k output).answer
+    module _ (o : Option Report) (found : SomeIff o ((1 ≤ k) × (k ≤ length (reports p))) (report_at p k)) (missing : o ≡ None) where
+      none : (1 ≤ k) × (k ≤ length (reports p)) → ⊥
+      none = rw missing at found
+
+      past : (eqb k 0 || ltb (length (reports p)) k) ≡ true
+      past = go (dec_lt 0 k) (dec_lt (length (reports p)) k)
+        where
+          go : Dec (0 < k) → Dec (length (reports p) < k) → (eqb k 0 || ltb (length (reports p)) k) ≡ true
+          go (no z) _ = rw (eq-eqb k 0 (omega arith))
+          go (yes s) (yes l) = rw (ne_eqb k 0 (omega arith), lt-ltb (length (reports p)) k l)
+          go (yes s) (no l) = absurd (none (omega arith, omega arith))
+
+      pub no_such : (e : Refusal) → ◌≡◌ {A = Result Report Refusal} (Err e) (ok_or o NoSuchNumber) → refused_by (number_of e) tt ≡ (write_report codes p k output).answer
       unfolding write_report
-      number_none = rw (range, eq-eqb k 0 e)
+      no_such e is =
+          let same : e ≡ NoSuchNumber = let w = rw missing at is in cc in
+          rw (same, range, past)
 
-      pub number_none_stays : output ≡ (write_report codes p k output).output
+      pub no_such_stays : output ≡ (write_report codes p k output).output
       unfolding write_report
-      number_none_stays = rw (range, eq-eqb k 0 e)
+      no_such_stays = rw (range, past)
 
-    module _ (some : k ≡ 0 → ⊥) (at : Place) (s : Stands p (k - 1) at) (left : ℕ) (l : left ≡ units_left p at.segment)
-        (u : ℕ) (units : u ≡ at_most p.segment_size left) (a : Bool) (has : a ≡ has_report p.period u at.index) where
-      module _ (g : not a ≡ true) where
-        above : length (reports p) < k
-        above = omega (arith, length_reports p, has_no_number p (k - 1) at s left l u units a has (passed codes p b tested h) g)
+    module _ (o : Option Report) (found : SomeIff o ((1 ≤ k) × (k ≤ length (reports p))) (report_at p k)) (r : Report) (is : o ≡ Some r) where
+      there : (1 ≤ k) × (k ≤ length (reports p))
+      there = (rw is at found).0
 
-        pub number_above : refused_by 13 tt ≡ (write_report codes p k output).answer
-        unfolding write_report
-        number_above = rw (range, ne_eqb k 0 some, lt-ltb (length (reports p)) k above)
+      e : r ≡ report_at p k
+      e = (rw is at found).1
 
-        pub number_above_stays : output ≡ (write_report codes p k output).output
-        unfolding write_report
-        number_above_stays = rw (range, ne_eqb k 0 some, lt-ltb (length (reports p)) k above)
+      -- past the refusals of the plan the call is one of `write`
+      as_packet : write_report codes p k output ≡ write codes r output
+      unfolding write_report write
+      as_packet =
+          let fine : report_in_range codes (report_at p k) ≡ true = report_in_range_lem p k there.0 there.1 (plan_ranges codes p range) in
+          rw (e, fine, range, ne_eqb k 0 (omega (arith, there.0)), le-ltb (length (reports p)) k there.1)
 
-      module _ (g : not a ≡ false) (r : Report) (e : r ≡ report_at p (k - 1 + 1)) where
-        within : k ≤ length (reports p)
-        within = omega (arith, length_reports p, has_number p (k - 1) at s left l u units a has g)
+      pub written_out : (x : Told (Unit {0})) → x ≡ (write codes r output).answer → x ≡ (write_report codes p k output).answer
+      written_out x w = rw as_packet w
 
-        -- past the refusals of the plan the call is one of `write`
-        as_packet : write_report codes p k output ≡ write codes r output
-        unfolding write_report write
-        as_packet =
-            let number : k - 1 + 1 ≡ k = omega arith in
-            let fine : report_in_range codes (report_at p k) ≡ true = report_in_range_lem p k (omega arith) within (plan_ranges codes p range) in
-            rw (e, number, fine, range, ne_eqb k 0 some, le-ltb (length (reports p)) k within)
-
-        pub written_out : (x : Told (Unit {0})) → x ≡ (write codes r output).answer → x ≡ (write_report codes p k output).answer
-        written_out x w = rw as_packet w
-
-        pub written_after : (after : List ℕ) → after ≡ (write codes r output).output → after ≡ (write_report codes p k output).output
-        written_after after w = rw as_packet w
+      pub written_after : (after : List ℕ) → after ≡ (write codes r output).output → after ≡ (write_report codes p k output).output
+      written_after after w = rw as_packet w
 
 pub ruleset writing_reports = (
   in_ranges,
-  passed,
-  at_most_size,
-  has_number,
-  its_place,
   out_of_range,
   out_of_range_stays,
-  number_none,
-  number_none_stays,
-  number_above,
-  number_above_stays,
+  no_such,
+  no_such_stays,
   written_out,
   written_after,
 )

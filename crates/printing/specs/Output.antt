@@ -1,7 +1,11 @@
--- Where a text stands in the buffer that the listing program prints.
-use Rattle.std.specs.Prelude.{ℕ, ◌+◌, ◌≤◌, ◌≡◌, List, length}
+-- How long the text is that the listing program prints.
+use Rattle.std.specs.Prelude.{ℕ, ◌+◌, ◌≤◌}
+use Rattle.arrayvec.specs.ArrayString.{ArrayString, array_string_len}
 
--- a text of at most so many bytes is put at a place, and ends at another
-pub record Puts (most at : ℕ) (b : List ℕ) (end : ℕ) (b' : List ℕ) : Type 0 where
-  pub same : length b' ≡ length b
-  pub within : end ≤ at + most
+-- the text has room for so many bytes more
+abbrev pub HasRoom : ℕ → ArrayString → Type 0
+HasRoom more text = array_string_len text + more ≤ 28832
+
+-- at most so many bytes are put behind the text
+abbrev pub Puts : ℕ → ArrayString → ArrayString → Type 0
+Puts most text text' = array_string_len text' ≤ array_string_len text + most

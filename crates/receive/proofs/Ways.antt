@@ -38,11 +38,12 @@ use Rattle.theorems.proofs.Looks.{hears_with_8, looks_at_8}
 use Rattle.theorems.proofs.Entries.{hears_below_256, receives_below_256}
 use Rattle.theorems.proofs.Runs.{PayloadFits, packet_report_fits, hear_stays_valid, stays_valid}
 use Rattle.table.specs.Columns.{Takes, taken_into}
-use Rattle.hearing.specs.declared.Hearing.{Hearing}
-use Rattle.hearing.specs.declared.Hearing.TheVariants as hearing
-use Rattle.hearing.specs.Sayings.{arrival, hearing_of, refusal_of_hearing}
-use Rattle.receive.specs.Steps.{hearing_in, taken_heard, TakesHeard, HearsTested}
-use Rattle.receive.specs.Receives.{Does, Receives, HearsInto}
+use Rattle.refusals.specs.Refusals.{Told, answered, refused_by}
+use Rattle.hearing.specs.declared.Heard.{Heard}
+use Rattle.hearing.specs.Sayings.{arrival, nothing_heard, hearing_of}
+use Rattle.receive.specs.declared.Tested.{Tested}
+use Rattle.receive.specs.Steps.{hearing_in, taken_heard, TakesHeard}
+use Rattle.receive.specs.Receives.{in_table, Does, Receives, Hears}
 use Rattle.receive.proofs.Stepwise.{took, not_heard}
 
 pub passed : (t : Table) (b : Bool) → b ≡ valid t → not b ≡ false → valid t ≡ true
@@ -89,19 +90,26 @@ module _ (t : Table) (a : Arrival) (fit : PayloadFits a) where
       go false e = rw e (refuses_it e)
       go true e = let none = eqb-true refusal 0 e in rw e (ap (taken_into t) (same_report none) ∙ sym (to_the_table none))
 
--- what was said, taken into a table, as the model has it
-does : (h : Head) (keys heard : List ℕ) (said : Hearing) (r : Receiving) (a : Received) (keys' heard' : List ℕ)
+-- what was said, taken into columns, as the model has it
+pub record Does_in (r : Receiving) (h : Head) (a : Received) (keys' heard' : List ℕ) : Type 0 where
+  pub answer : a ≡ r.answer
+  pub table : table_of (holding a.count h) keys' heard' ≡ r.table
+  pub passes : valid (table_of (holding a.count h) keys' heard') ≡ true
+  pub bounded : a.probes ≤ 8
+  pub small : a.refusal < 256
+
+does : (h : Head) (keys heard : List ℕ) (said : Told Heard) (r : Receiving) (a : Received) (keys' heard' : List ℕ)
     → taken_heard (table_of h keys heard) said ≡ r → TakesHeard h keys heard said a keys' heard'
     → valid r.table ≡ true → r.answer.probes ≤ 8 → r.answer.refusal < 256
-    → Does r h a keys' heard'
+    → Does_in r h a keys' heard'
 does h keys heard said r a keys' heard' both e v few small =
     let answer : a ≡ r.answer = e.answer ∙ (λ i. (both i).answer) in
     let table : table_of (holding a.count h) keys' heard' ≡ r.table = e.table ∙ (λ i. (both i).table) in
     record { answer = answer; table = table; passes = ap valid table ∙ v; bounded = rw answer few; small = rw answer small }
 
 module _ (h : Head) (keys heard : List ℕ) (v : valid (table_of h keys heard) ≡ true) (time : ℕ) (m : Bool) (p : List ℕ) (fit : BytesFit p) where
-  pub hears_it : (said : Hearing) → said ≡ hearing_of h (arrival time m p) → (a : Received) (keys' heard' : List ℕ)
-      → TakesHeard h keys heard said a keys' heard' → HearsInto h keys heard time m p a keys' heard'
+  pub hears_it : (said : Told Heard) → said ≡ hearing_of h (arrival time m p) → (a : Received) (keys' heard' : List ℕ)
+      → TakesHeard h keys heard said a keys' heard' → Does_in (hear (table_of h keys heard) (arrival time m p)) h a keys' heard'
   hears_it said stage a keys' heard' e =
       let t = table_of h keys heard in
       does h keys heard said (hear t (arrival time m p)) a keys' heard'
@@ -120,75 +128,51 @@ module _ (h : Head) (keys heard bs : List ℕ) (v : valid (table_of h keys heard
   step = rw v (go (eqb (refusal_for h bs) 0))
     where
       go : (b : Bool)
-          → taken_heard t (cond b (hearing_of h (arrival_in bs)) (hearing.Refused (refusal_for h bs)))
+          → taken_heard t (cond b (hearing_of h (arrival_in bs)) (refused_by (refusal_for h bs) nothing_heard))
           ≡ cond b (hear t (arrival_in bs)) (refusing (refusal_for h bs) t 0)
       go false = refl
       go true = said_and_taken t (arrival_in bs) (packet_report_fits bs fit)
 
-  pub receives : (said : Hearing) → said ≡ hearing_in h bs → (a : Received) (keys' heard' : List ℕ) → TakesHeard h keys heard said a keys' heard'
-      → Receives h keys heard bs a keys' heard'
+  pub receives : (said : Told Heard) → said ≡ hearing_in h bs → (a : Received) (keys' heard' : List ℕ) → TakesHeard h keys heard said a keys' heard'
+      → Does_in (receive t bs) h a keys' heard'
   receives said stage a keys' heard' e =
       does h keys heard said (receive t bs) a keys' heard' (ap (taken_heard t) stage ∙ step) e (stays_valid t bs v fit) (looks_at_8 t bs)
       (receives_below_256 t bs)
 
 -- THE TESTS FIRST
 
-module _ (h : Head) (keys heard bs : List ℕ) where
-  abbrev table : Table
-  table = table_of h keys heard
-
-  pub bad_table : (b : Bool) → b ≡ valid table → not b ≡ true → HearsTested table bs (hearing.Refused 16)
+module _ (h : Head) (keys heard bs : List ℕ) (b : Bool) (is : b ≡ valid (table_of h keys heard)) (bad : not b ≡ true) where
+  untested : refusing 16 (table_of h keys heard) 0 ≡ receive (table_of h keys heard) bs
   unfolding receive packet_refusal
-  bad_table b is bad = record { passes = λ e. absurd (false≢true e); step = rw (sym is ∙ not-true b bad) }
+  untested = rw (sym is ∙ not-true b bad)
 
-  pub good_table : BytesFit bs → (b : Bool) → b ≡ valid table → not b ≡ false → (said : Hearing) → said ≡ hearing_in h bs → HearsTested table bs said
-  good_table fit b is ok said stage =
-      let v = passed table b is ok in
-      record { passes = λ e. v; step = ap (taken_heard table) stage ∙ step h keys heard bs v fit }
+  module _ (a : Received) (e : a ≡ refused_with 16 h.count 0) where
+    pub refused_first : a ≡ (receive (table_of h keys heard) bs).answer
+    refused_first = e ∙ (λ i. (untested i).answer)
 
-  module _ (said : Hearing) (w : HearsTested table bs said) where
-    pub may_take : (key told : ℕ) → said ≡ hearing.Heard key told → valid table ≡ true
-    may_take key told x = w.passes (rw x)
+    pub table_stays : table_of (holding a.count h) keys heard ≡ (receive (table_of h keys heard) bs).table
+    table_stays = (λ i. table_of (holding (e i).count h) keys heard) ∙ (λ i. (untested i).table)
 
-    module _ (a : Received) (keys' heard' : List ℕ) (e : TakesHeard h keys heard said a keys' heard') where
-      answer_is : a ≡ (receive table bs).answer
-      answer_is = e.answer ∙ (λ i. (w.step i).answer)
+-- THE TABLE THAT IS LENT
 
-      pub table_is : table_of (holding a.count h) keys' heard' ≡ (receive table bs).table
-      table_is = e.table ∙ (λ i. (w.step i).table)
+module _ (r : Receiving) (t : Tested) (a : Received) where
+  -- the same columns, with what was done in them
+  pub as_lent : (keys' heard' : List ℕ) → Does_in r t.head a keys' heard' → (t' : Tested)
+      → t'.head ≡ holding a.count t.head → t'.keys.now ≡ keys' → t'.heard.now ≡ heard'
+      → t'.keys.ghost_name ≡ t.keys.ghost_name → t'.heard.ghost_name ≡ t.heard.ghost_name
+      → Does r t a t'
+  as_lent keys' heard' d t' head keys heard k w = record {
+    answer = d.answer;
+    table = (λ i. table_of (head i) (keys i) (heard i)) ∙ d.table;
+    head = head;
+    lent = record { keys = k; heard = w };
+    bounded = d.bounded;
+    small = d.small;
+  }
 
-      looked_at : a.probes ≤ 8
-      looked_at = rw answer_is (looks_at_8 table bs)
+  -- nothing was done
+  pub as_it_was : Does_in r t.head a t.keys.now t.heard.now → (n : ℕ) → a ≡ refused_with n t.head.count 0 → Does r t a t
+  as_it_was d n e =
+      as_lent t.keys.now t.heard.now d t (λ i. holding (sym e i).count t.head) refl refl refl refl
 
-    module _ (key told : ℕ) (x : said ≡ hearing.Heard key told) (a : Received) (keys' heard' : List ℕ)
-        (e : Takes h keys heard key told a keys' heard') where
-      pub taken_answer : a ≡ (receive table bs).answer
-      taken_answer = answer_is a keys' heard' (took h keys heard said key told x a keys' heard' e)
-
-      pub taken_probes : a.probes ≤ 8
-      taken_probes = looked_at a keys' heard' (took h keys heard said key told x a keys' heard' e)
-
-    module _ (n : ℕ) (x : said ≡ hearing.Refused n) (k : ℕ) (is : k ≡ refusal_of_hearing said)
-        (a : Received) (e : a ≡ refused_with k h.count 0) where
-      pub refused_answer : a ≡ (receive table bs).answer
-      refused_answer = answer_is a keys heard (not_heard h keys heard said n x k is a e)
-
-      pub refused_probes : a.probes ≤ 8
-      refused_probes = looked_at a keys heard (not_heard h keys heard said n x k is a e)
-
-pub ruleset ways = (
-  rules,
-  took,
-  not_heard,
-  bytes_fit,
-  hears_it,
-  receives,
-  bad_table,
-  good_table,
-  may_take,
-  table_is,
-  taken_answer,
-  taken_probes,
-  refused_answer,
-  refused_probes,
-)
+pub ruleset ways = (rules, passed, took, not_heard, bytes_fit, hears_it, receives, refused_first, table_stays)

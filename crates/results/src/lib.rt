@@ -1,15 +1,15 @@
-// Structs that hold a refusal's number in place of the enum answers, for C and Rust: refusal 0 and the values, or the number and zeros.
+// Structs that hold a refusal's number in place of a Result, for C and Rust: refusal 0 and the values, or the number and zeros.
 #![tactic(auto)]
 
 ghost use Rattle.std.specs.Prelude.{◌≡◌};
-ghost use Rattle.model.specs.Answers.{no_report, no_event, told_read, told_write, told_count, told_event};
-ghost use Rattle.model.specs.Codes.{told_codes, told_text, told_lowest};
+ghost use Rattle.refusals.specs.Refusals.{told};
+ghost use Rattle.model.specs.Answers.{no_report, no_event, no_cursor, opened_of, walk_start_of, listed_of};
+ghost use Rattle.model.specs.Codes.{empty_set};
+ghost use Rattle.model.specs.Table.{no_table, one_type};
 ghost use Rattle.results.specs.Results.{read_result, count_result, event_result, codes_result, text_result, lowest_result};
 
-use model::{
-    Codes, CodesAnswer, CountAnswer, Event, EventAnswer, LowestAnswer, ReadAnswer, Report,
-    TextAnswer, WriteAnswer,
-};
+use model::{Codes, Cursor, Event, Head, Listed, Opened, Report, Table, WalkStart};
+use refusals::Refusal;
 
 // A report, or the number of the refusal and zeros.
 #[repr(C)]
@@ -59,6 +59,17 @@ pub struct LowestResult {
     pub refusal: u8,
 }
 
+// What is told of an answer: its values, zeros if it refuses, and the refusal's number, 0 if there is none.
+fn told<T: Copy>(answer: Result<T, Refusal>, zeros: T) -> (T, u8)
+    ensures values { result.0 ≡ (told zeros answer).values }
+    ensures number { result.1 ≡ (told zeros answer).number }
+{
+    match answer {
+        Ok(values) => (values, 0),
+        Err(refusal) => (zeros, refusal as u8),
+    }
+}
+
 fn no_report() -> Report
     ensures { result ≡ no_report }
 {
@@ -89,108 +100,113 @@ fn no_event() -> Event
     }
 }
 
-// What reading a packet answered.
-pub fn of_read(a: ReadAnswer) -> ReadResult
-    ensures { result ≡ read_result (told_read a) }
+fn no_head() -> Head
+    ensures { result ≡ one_type empty_set 0 0 0 }
 {
-    match a {
-        ReadAnswer::Read(r) => ReadResult {
-            report: r,
-            refusal: 0,
-        },
-        ReadAnswer::Refused(n) => ReadResult {
-            report: no_report(),
-            refusal: n,
-        },
+    Head {
+        payload_type: 0,
+        both_types: 0,
+        redundant_type: 0,
+        ssrc: 0,
+        origin: 0,
+        codes: codes::none(),
+        count: 0,
     }
 }
 
-// What writing a packet answered, which is no more than the refusal's number.
-pub fn of_write(a: WriteAnswer) -> u8
-    ensures { result ≡ (told_write a).number }
-{
-    match a {
-        WriteAnswer::Written => 0,
-        WriteAnswer::Refused(n) => n,
+// What reading a packet answered.
+impl From<Result<Report, Refusal>> for ReadResult {
+    ghost from_gives = { λ answer r. r ≡ read_result (told no_report answer) };
+
+    fn from(answer: Result<Report, Refusal>) -> ReadResult {
+        let (report, refusal) = told(answer, no_report());
+        ReadResult { report, refusal }
     }
 }
 
 // What counting a plan's reports answered.
-pub fn of_count(a: CountAnswer) -> CountResult
-    ensures { result ≡ count_result (told_count a) }
-{
-    match a {
-        CountAnswer::Reports(reports) => CountResult {
-            reports: reports,
-            refusal: 0,
-        },
-        CountAnswer::Refused(n) => CountResult {
-            reports: 0,
-            refusal: n,
-        },
+impl From<Result<u32, Refusal>> for CountResult {
+    ghost from_gives = { λ answer r. r ≡ count_result (told 0 answer) };
+
+    fn from(answer: Result<u32, Refusal>) -> CountResult {
+        let (reports, refusal) = told(answer, 0);
+        CountResult { reports, refusal }
     }
 }
 
 // What asking for one event answered.
-pub fn of_event(a: EventAnswer) -> EventResult
-    ensures { result ≡ event_result (told_event a) }
-{
-    match a {
-        EventAnswer::Found(v) => EventResult {
-            event: v,
-            refusal: 0,
-        },
-        EventAnswer::Refused(n) => EventResult {
-            event: no_event(),
-            refusal: n,
-        },
+impl From<Result<Event, Refusal>> for EventResult {
+    ghost from_gives = { λ answer r. r ≡ event_result (told no_event answer) };
+
+    fn from(answer: Result<Event, Refusal>) -> EventResult {
+        let (event, refusal) = told(answer, no_event());
+        EventResult { event, refusal }
     }
 }
 
 // What reading a text of codes answered.
-pub fn of_codes(a: CodesAnswer) -> CodesResult
-    ensures { result ≡ codes_result (told_codes a) }
-{
-    match a {
-        CodesAnswer::Read(s) => CodesResult {
-            codes: s,
-            refusal: 0,
-        },
-        CodesAnswer::Refused(n) => CodesResult {
-            codes: codes::none(),
-            refusal: n,
-        },
+impl From<Result<Codes, Refusal>> for CodesResult {
+    ghost from_gives = { λ answer r. r ≡ codes_result (told empty_set answer) };
+
+    fn from(answer: Result<Codes, Refusal>) -> CodesResult {
+        let (codes, refusal) = told(answer, codes::none());
+        CodesResult { codes, refusal }
     }
 }
 
 // What writing a set of codes answered.
-pub fn of_text(a: TextAnswer) -> TextResult
-    ensures { result ≡ text_result (told_text a) }
-{
-    match a {
-        TextAnswer::Written(bytes) => TextResult {
-            bytes: bytes,
-            refusal: 0,
-        },
-        TextAnswer::Refused(n) => TextResult {
-            bytes: 0,
-            refusal: n,
-        },
+impl From<Result<usize, Refusal>> for TextResult {
+    ghost from_gives = { λ answer r. r ≡ text_result (told 0 answer) };
+
+    fn from(answer: Result<usize, Refusal>) -> TextResult {
+        let (bytes, refusal) = told(answer, 0);
+        TextResult { bytes, refusal }
     }
 }
 
 // What asking for the lowest code answered.
-pub fn of_lowest(a: LowestAnswer) -> LowestResult
-    ensures { result ≡ lowest_result (told_lowest a) }
-{
-    match a {
-        LowestAnswer::Lowest(code) => LowestResult {
-            code: code,
-            refusal: 0,
-        },
-        LowestAnswer::Refused(n) => LowestResult {
-            code: 0,
-            refusal: n,
-        },
+impl From<Result<u32, Refusal>> for LowestResult {
+    ghost from_gives = { λ answer r. r ≡ lowest_result (told 0 answer) };
+
+    fn from(answer: Result<u32, Refusal>) -> LowestResult {
+        let (code, refusal) = told(answer, 0);
+        LowestResult { code, refusal }
     }
+}
+
+// What writing a packet answered, which is no more than the refusal's number.
+pub fn written(answer: Result<(), Refusal>) -> u8
+    ensures { result ≡ (told tt answer).number }
+{
+    let ((), refusal) = told(answer, ());
+    refusal
+}
+
+// What opening a table answered.
+pub fn opened(answer: Result<Table, Refusal>) -> Opened
+    ensures { result ≡ opened_of (told no_table answer) }
+{
+    let (table, refusal) = told(answer, opening::empty(no_head()));
+    Opened { table, refusal }
+}
+
+// What the start of a walk answered.
+pub fn walk_started(answer: Result<Cursor, Refusal>) -> WalkStart
+    ensures { result ≡ walk_start_of (told no_cursor answer) }
+{
+    let nowhere = Cursor {
+        header: 0,
+        body: 0,
+        end: 0,
+    };
+    let (cursor, refusal) = told(answer, nowhere);
+    WalkStart { cursor, refusal }
+}
+
+// How many events a list has, or why it cannot be written.
+pub fn listed(answer: Result<usize, Refusal>) -> Listed
+    ensures { result ≡ listed_of (told 0 answer) }
+{
+    let (events, refusal) = told(answer, 0);
+    Listed { refusal, events }
 }

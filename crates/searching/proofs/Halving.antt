@@ -1,11 +1,11 @@
 -- What the loop of the halving search knows: where in the model's search it is, and how many keys it has looked at.
 use Prim.Native.Nat.{ℕ, ◌+◌, ◌-◌, ◌/◌, ◌≤◌, ◌<◌}
-use mathlib.Core.Path.{◌≡◌, sym, ◌∙◌}
+use mathlib.Core.Path.{◌≡◌, refl, sym, ◌∙◌}
 use mathlib.Core.List.{List}
 use native.Mathlib.Omega.{arith}
 use lib.Dec.{ltb}
 use borrow.Author.Tests.{lt-ltb, le-ltb}
-use lib.ListN.{get_or}
+use lib.ListN.{length, get_or}
 use Rattle.model.specs.declared.Segment.{Segment}
 use Rattle.model.specs.Table.{segment_of, segment_at, segments_from}
 use Rattle.model.specs.Search.{Range, middle, entry, is_smaller, kept, search_in, search}
@@ -26,7 +26,10 @@ reached_next r l n g h a =
     let e : (search_in r l g).probes ≡ (search_in r l (kept r l g)).probes + 1 = λ i. (q i).probes in
     record { place = a.place ∙ (λ i. (q i).place); probes = omega (arith, a.probes) }
 
-module _ (keys : List ℕ) (n k : ℕ) where
+module _ (keys : List ℕ) (k : ℕ) where
+  abbrev n : ℕ
+  n = length keys
+
   abbrev l : List ℕ → List Segment
   l heard = segments_from keys heard 0 n
 
@@ -48,7 +51,7 @@ module _ (keys : List ℕ) (n k : ℕ) where
     abbrev g : Range
     g = record { low = low; high = high }
 
-    pub search_ends : high ≤ low → Finds keys n k (record { place = low; probes = probes })
+    pub search_ends : high ≤ low → Finds keys k (record { place = low; probes = probes })
     search_ends h = record { is = λ heard told. ended (segment_of k told) (l heard) (b.reached heard told) }
       where
         ended : (r : Segment) (l : List Segment) → Reached r l probes g → record { place = low; probes = probes } ≡ search r l
@@ -57,10 +60,13 @@ module _ (keys : List ℕ) (n k : ℕ) where
             let e : (search r l).probes ≡ probes = a.probes ∙ rw q (omega arith) in
             λ i. record { place = sym (a.place ∙ (λ i. (q i).place)) i; probes = sym e i }
 
-    module _ (more : low < high) (m : ℕ) (is : m ≡ (low + high) / 2) (next : ℕ) (one_more : next ≡ probes + 1) where
+    module _ (more : low < high) where
+      abbrev m : ℕ
+      m = (low + high) / 2
+
       middle_is : middle g ≡ m
       unfolding middle
-      middle_is = sym is
+      middle_is = refl
 
       -- the entry at the middle is smaller than the pair if its key is
       by_key : (heard : List ℕ) (told : ℕ) → is_smaller (entry (l heard) (middle g)) (segment_of k told) ≡ ltb (get_or keys m 0) k
@@ -71,20 +77,20 @@ module _ (keys : List ℕ) (n k : ℕ) where
 
       -- the part of the range that is kept, by how the keys compare
       reached_part : (h : Range) → ((heard : List ℕ) (told : ℕ) → kept (segment_of k told) (l heard) g ≡ h)
-          → (heard : List ℕ) (told : ℕ) → Reached (segment_of k told) (l heard) next h
+          → (heard : List ℕ) (told : ℕ) → Reached (segment_of k told) (l heard) (probes + 1) h
       reached_part h e heard told =
-          rw (one_more, ← e heard told) (reached_next (segment_of k told) (l heard) probes g more (b.reached heard told))
+          rw (← e heard told) (reached_next (segment_of k told) (l heard) probes g more (b.reached heard told))
 
-      pub search_up : get_or keys m 0 < k → (up : ℕ) → up ≡ m + 1 → Halving up high next
-      search_up h up e = record {
+      pub search_up : get_or keys m 0 < k → Halving (m + 1) high (probes + 1)
+      search_up h = record {
         low_high = omega arith;
         high_n = b.high_n;
         few = omega (arith, b.few);
-        reached = reached_part (record { low = up; high = high })
-            (λ heard told. keeps_right (segment_of k told) (l heard) g (by_key heard told ∙ lt-ltb (get_or keys m 0) k h) ∙ rw (middle_is, e));
+        reached = reached_part (record { low = m + 1; high = high })
+            (λ heard told. keeps_right (segment_of k told) (l heard) g (by_key heard told ∙ lt-ltb (get_or keys m 0) k h) ∙ rw middle_is);
       }
 
-      pub search_down : k ≤ get_or keys m 0 → Halving low m next
+      pub search_down : k ≤ get_or keys m 0 → Halving low m (probes + 1)
       search_down h = record {
         low_high = omega arith;
         high_n = omega (arith, b.high_n);

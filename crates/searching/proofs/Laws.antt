@@ -2,19 +2,21 @@
 use Prim.Native.Nat.{ℕ, ◌≤◌, ◌<◌}
 use mathlib.Core.Path.{◌≡◌}
 use mathlib.Core.List.{List}
-use mathlib.Core.Bool.{false, ◌&&◌}
-use lib.Dec.{ltb, eqb}
-use lib.ListN.{get_or}
+use lib.ListN.{length, get_or}
 use borrow.Author.Rules.{rules}
-use borrow.Author.Tests.{lt-ltb, le-ltb}
+use borrow.Author.Tests.{lt-ltb, le-ltb, eq-eqb, ne_eqb}
+use Rattle.std.specs.Prelude.{Ok, Err}
+use Rattle.searching.specs.Seeks.{Finds, Seeks}
 use Rattle.searching.proofs.Halving.{search_starts, search_ends, search_up, search_down}
-use Rattle.searching.proofs.Windows.{seeks_in}
 
-module _ (keys : List ℕ) (n i k : ℕ) where
-  pub not_there : n ≤ i → false ≡ (ltb i n && eqb (get_or keys i 0) k)
-  not_there h = rw (le-ltb i n h)
+module _ (keys : List ℕ) (k i n : ℕ) (f : Finds keys k (record { place = i; probes = n })) where
+  pub past_all : length keys ≤ i → Seeks keys k (record { place = Err i; probes = n })
+  past_all h = record { found = f; there = rw (le-ltb i (length keys) h) }
 
-  pub there_if : i < n → eqb (get_or keys i 0) k ≡ (ltb i n && eqb (get_or keys i 0) k)
-  there_if h = rw (lt-ltb i n h)
+  pub another : i < length keys → (get_or keys i 0 ≡ k → ⊥) → Seeks keys k (record { place = Err i; probes = n })
+  another h o = record { found = f; there = rw (lt-ltb i (length keys) h, ne_eqb (get_or keys i 0) k o) }
 
-pub ruleset seeking = (rules, search_starts, search_ends, search_up, search_down, not_there, there_if, seeks_in)
+  pub stands : i < length keys → get_or keys i 0 ≡ k → Seeks keys k (record { place = Ok i; probes = n })
+  stands h e = record { found = f; there = rw (lt-ltb i (length keys) h, eq-eqb (get_or keys i 0) k e) }
+
+pub ruleset seeking = (rules, search_starts, search_ends, search_up, search_down, past_all, another, stands)

@@ -1,12 +1,12 @@
 -- The order of segments as an order of their keys, and the numbers of a segment or of two reports together.
-use Prim.Native.Nat.{ℕ, ◌+◌, ◌*◌, ◌/◌, ◌%◌, ◌≤◌, ◌<◌, min, max}
+use Prim.Native.Nat.{ℕ, ◌+◌, ◌*◌, ◌/◌, ◌%◌, ◌<◌, min, max}
 use mathlib.Core.Path.{◌≡◌, refl, sym, ◌∙◌}
 use mathlib.Core.Bool.{Bool, true, false, ◌&&◌, ◌||◌}
 use native.Mathlib.Omega.{arith}
-use borrow.Author.Rules.{rules}
 use borrow.Author.Tests.{lt-ltb, le-ltb, ltb-true, ltb-false, eqb-true, eqb-false}
-use lib.Bits.{bit_or, or_step, or_zero_l, or_lt}
+use lib.Bits.{bit_and, bit_or, and_mask, and_high}
 use lib.Dec.{ltb, eqb}
+use Rattle.std.proofs.lemmas.Nat.Bits.{bit_at_or}
 use Rattle.model.specs.declared.Segment.{Segment}
 use Rattle.model.specs.Packet.{bit}
 use Rattle.model.specs.Segments.{before, merge}
@@ -34,45 +34,31 @@ bit_or_lem false true = refl
 bit_or_lem false false = refl
 
 -- the flags of both are E of either and M of either
-flags_are : (told held : ℕ) → bit_or (told / 0x1_0000 % 4) (held / 0x1_0000 % 4)
-    ≡ max (told / 0x1_0000 % 2) (held / 0x1_0000 % 2) + 2 * max (told / 0x2_0000 % 2) (held / 0x2_0000 % 2)
-flags_are told held = two_bits (told / 0x1_0000 % 4) (held / 0x1_0000 % 4) (omega arith) (omega arith) ∙ rw (low told, low held, high told, high held) (omega arith)
-  where
-    two_bits : (a b : ℕ) → a < 4 → b < 4 → bit_or a b ≡ max (a / 2 % 2) (b / 2 % 2) * 2 + max (a % 2) (b % 2)
-    two_bits a b h k =
-        let p : a / 2 / 2 ≡ 0 = omega arith in
-        let q : b / 2 / 2 ≡ 0 = omega arith in
-        let e : bit_or (a / 2) (b / 2) ≡ max (a / 2 % 2) (b / 2 % 2) = or_step (a / 2) (b / 2) ∙ rw (p, q, or_zero_l 0) (omega arith) in
-        or_step a b ∙ rw e
-
-    low : (x : ℕ) → x / 0x1_0000 % 4 % 2 ≡ x / 0x1_0000 % 2
-    low x = omega arith
-
-    high : (x : ℕ) → x / 0x1_0000 % 4 / 2 % 2 ≡ x / 0x2_0000 % 2
-    high x = omega arith
+flags_are : (told held : ℕ) → bit_and (bit_or told held) 0x3_0000
+    ≡ 0x1_0000 * (max (told / 0x1_0000 % 2) (held / 0x1_0000 % 2) + 2 * max (told / 0x2_0000 % 2) (held / 0x2_0000 % 2))
+flags_are told held = and_high (bit_or told held) 2 16 ∙ omega (arith, bit_at_or told held 16, bit_at_or told held 17)
 
 -- compared where they stand
-quietest_moved : (a b : ℕ) → max (a * 0x4_0000) (b * 0x4_0000) ≡ max a b * 0x4_0000
-quietest_moved a b = omega arith
+quietest_is : (a b : ℕ) → max (bit_and a 0xfc_0000) (bit_and b 0xfc_0000) ≡ 0x4_0000 * max (a / 0x4_0000 % 64) (b / 0x4_0000 % 64)
+quietest_is a b = rw (and_high a 6 18, and_high b 6 18) (omega arith)
 
-volume_on_top : (a b : ℕ) → min a b / 0x100_0000 ≡ min (a / 0x100_0000) (b / 0x100_0000)
-volume_on_top a b = omega arith
+volume_on_top : (a b : ℕ) → a < 0x1_0000_0000 → b < 0x1_0000_0000
+    → bit_and (min a b) 0xff00_0000 ≡ 0x100_0000 * min (a / 0x100_0000) (b / 0x100_0000)
+volume_on_top a b h k = and_high (min a b) 8 24 ∙ omega arith
 
-pub two_flags : (a b : ℕ) → a ≤ 3 → b ≤ 3 → bit_or a b ≤ 3
-two_flags a b h k = omega (arith, or_lt 2 a b (omega arith) (omega arith))
-
-pub merged_is : (told held d f v : ℕ) → d ≡ max (told % 0x1_0000) (held % 0x1_0000) → f ≡ bit_or (told / 0x1_0000 % 4) (held / 0x1_0000 % 4)
-    → v ≡ max (told / 0x4_0000 % 64 * 0x4_0000) (held / 0x4_0000 % 64 * 0x4_0000) + min told held / 0x100_0000 * 0x100_0000
-    → (r : ℕ) → r ≡ d + 0x1_0000 * f + v → r ≡ heard_of (merge (segment_of 0 told) (segment_of 0 held))
-merged_is told held d f v p q w r is =
+pub merged_is : (told held : ℕ) → told < 0x1_0000_0000 → held < 0x1_0000_0000
+    → (d q v : ℕ) → d ≡ max (bit_and told 0xffff) (bit_and held 0xffff) → q ≡ max (bit_and told 0xfc_0000) (bit_and held 0xfc_0000)
+    → v ≡ min told held → d + bit_and (bit_or told held) 0x3_0000 + q + bit_and v 0xff00_0000 ≡ heard_of (merge (segment_of 0 told) (segment_of 0 held))
+merged_is told held h k d q v e f g =
     rw (
-      is,
-      p,
-      q,
-      w,
+      e,
+      f,
+      g,
+      and_mask told 16,
+      and_mask held 16,
       flags_are told held,
-      quietest_moved (told / 0x4_0000 % 64) (held / 0x4_0000 % 64),
-      volume_on_top told held,
+      quietest_is told held,
+      volume_on_top told held h k,
       bit_or_lem (eqb (told / 0x1_0000 % 2) 1) (eqb (held / 0x1_0000 % 2) 1),
       bit_or_lem (eqb (told / 0x2_0000 % 2) 1) (eqb (held / 0x2_0000 % 2) 1),
       bit_of_test (told / 0x1_0000 % 2) (omega arith),
@@ -81,5 +67,3 @@ merged_is told held d f v p q w r is =
       bit_of_test (held / 0x2_0000 % 2) (omega arith),
     )
     (omega arith)
-
-pub ruleset numbering = (rules, two_flags, merged_is)

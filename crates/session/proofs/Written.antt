@@ -7,20 +7,24 @@ use mathlib.Core.List.{List, [], ◌∷◌, ◌++◌, append_assoc, append-nil}
 use native.Mathlib.Nat.{add-mul, mul_assoc, mul_comm, mul-le-mul_right, pow-zero, pow-suc, div-one, div-div-eq-div-mul, mul-add-div_right, div-eq_of_lt}
 use native.Mathlib.Numerals.{add-one}
 use native.Mathlib.Omega.{arith}
-use borrow.Author.Tests.{le-leb, lt-leb, lt-ltb, eq-eqb, ne_eqb, eqb-true, leb-true, leb-false}
+use borrow.Author.Tests.{le-leb, lt-leb, lt-ltb, eq-eqb, ne_eqb, eqb-true, leb-false}
 use lib.Dec.{eqb, leb}
 use lib.ListN.{length, get_or, drop, length-append, length-drop}
 use lib.Seq.{drop-cons, drop-length, drop-append_seam, get_or-append_seam, get_or-drop, drop-drop}
-use Rattle.refusals.proofs.Tests.{and_then}
 use Rattle.lines.proofs.Laws.{no_line, Passed, number_passed, line_within}
 use Rattle.lines.specs.declared.Fault.{Fault}
 use Rattle.lines.specs.declared.Fault.TheVariants.{Name, MoreText}
-use Rattle.session.specs.declared.Session.TheVariants.{Given, Bad}
+use Rattle.session.specs.declared.Session.{Session}
+use Rattle.session.specs.declared.bad_line.BadLine.{BadLine}
 use Rattle.lines.specs.declared.Line.{Line}
-use Rattle.lines.specs.declared.Line.TheVariants.{Read, Wrong}
+use Rattle.std.specs.Prelude.{Result, Ok, Err}
+use Rattle.std.specs.List.{starts_with}
+use Rattle.std.proofs.lemmas.Bool.Decides.{Decides-eqb, nat_tests}
+use Rattle.std.proofs.lemmas.Slice.Eq.{starts_is}
+use Rattle.lines.specs.declared.Line.{Line}
 use Rattle.decimal.specs.Decimal.{is_digit, digits_of, followed_by, value, no_zero_ahead}
-use Rattle.lines.specs.Lines.{largest, number_at, starts_with, line_at}
-use Rattle.session.specs.Session.{decimals, type_name, source_name, origin_name, after, session_of, Decimal, StartsWithLine, SessionText}
+use Rattle.lines.specs.Lines.{read, largest, number_at, line_at}
+use Rattle.session.specs.Session.{decimals, type_name, source_name, origin_name, given, bad, after, session_of, Decimal, StartsWithLine, SessionText}
 
 -- DIGITS OF A NUMBER
 
@@ -99,10 +103,10 @@ value_cons d ds = let z : 0 * 10 + (d - 48) ≡ d - 48 = omega arith in ap (λ (
 
 module _ (b : ℕ) (h : is_digit b ≡ true) where
   at_least : 48 ≤ b
-  at_least = leb-true 48 b (and_then (leb 48 b) (leb b 57) h).0
+  at_least = grind (arith, nat_tests)
 
   at_most : b ≤ 57
-  at_most = leb-true b 57 (and_then (leb 48 b) (leb b 57) h).1
+  at_most = grind (arith, nat_tests)
 
 -- they say less than their places hold
 below_places : (l : List ℕ) → value (digits_of l) < 10 ^ length (digits_of l)
@@ -176,7 +180,7 @@ module _ (bs : List ℕ) (at : ℕ) where
   at_front : (i : ℕ) → get_or bs (at + i) 0 ≡ get_or (drop at bs) i 0
   at_front i = sym (get_or-drop at bs i 0)
 
-  number_read : (n : ℕ) (ds rest : List ℕ) → drop at bs ≡ ds ++ (10 ∷ rest) → Decimal n ds → n ≤ largest → number_at bs at ≡ Read n (at + length ds + 1)
+  number_read : (n : ℕ) (ds rest : List ℕ) → drop at bs ≡ ds ++ (10 ∷ rest) → Decimal n ds → n ≤ largest → number_at bs at ≡ read n (at + length ds + 1)
   unfolding number_at digits_of
   number_read n ds rest e d small =
       let t : ds ≡ decimals (suc d.more) n = d.text ∙ ap (λ (x : ℕ). decimals x n) (add-one d.more) in
@@ -195,7 +199,7 @@ module _ (bs : List ℕ) (at : ℕ) where
       let in_range = le-leb (value ds) largest (omega (arith, said, small)) in
       rw (all, in_range, lt-ltb (at + length ds) (length bs) there, eq-eqb (get_or bs (at + length ds) 0) 10 end, some, decimal, said)
 
-  number_then : (n e : ℕ) → number_at bs at ≡ Read n e
+  number_then : (n e : ℕ) → number_at bs at ≡ read n e
       → (ds : List ℕ) × (drop at bs ≡ ds ++ (10 ∷ drop e bs)) × Decimal n ds × (n ≤ largest)
   number_then n e x =
       let next : suc (at + length ds) ≡ e = sym (add-one (at + length ds)) ∙ p.next in
@@ -222,21 +226,11 @@ module _ (bs : List ℕ) (at : ℕ) where
 
 -- ONE LINE
 
-starts_there : (name l : List ℕ) → starts_with name (name ++ l) ≡ true
-unfolding starts_with
-starts_there [] l = refl
-starts_there (c ∷ cs) l = rw (eq-eqb c c refl) (starts_there cs l)
-
-starts_then : (name l : List ℕ) → starts_with name l ≡ true → l ≡ name ++ drop (length name) l
-unfolding starts_with
-starts_then [] l e = refl
-starts_then (c ∷ cs) [] e = absurd (false≢true e)
-starts_then (c ∷ cs) (b ∷ l) e =
-    let same : b ≡ c = eqb-true b c (and_then (eqb b c) (starts_with cs l) e).0 in
-    rw same (ap (λ (x : List ℕ). c ∷ x) (starts_then cs l (and_then (eqb b c) (starts_with cs l) e).1))
+starts : (name l : List ℕ) → (starts_with eqb l name ≡ true → l ≡ name ++ drop (length name) l) × ((rest : List ℕ) → l ≡ name ++ rest → starts_with eqb l name ≡ true)
+starts name l = starts_is Decides-eqb l name (starts_with eqb l name) refl
 
 module _ (bs : List ℕ) (at : ℕ) (name : List ℕ) (n : ℕ) where
-  line_read : (rest : List ℕ) → StartsWithLine name n (drop at bs) rest → (e : ℕ) × (line_at name bs at ≡ Read n e) × (drop e bs ≡ rest)
+  line_read : (rest : List ℕ) → StartsWithLine name n (drop at bs) rest → (e : ℕ) × (line_at name bs at ≡ read n e) × (drop e bs ≡ rest)
   unfolding line_at
   line_read rest w =
       let here : drop (at + length name) bs ≡ w.digits ++ (10 ∷ rest) =
@@ -244,20 +238,20 @@ module _ (bs : List ℕ) (at : ℕ) (name : List ℕ) (n : ℕ) where
       let after : drop (at + length name + length w.digits) bs ≡ 10 ∷ rest =
       sym (drop-drop (length w.digits) (at + length name) bs) ∙ ap (drop (length w.digits)) here ∙ drop-append_seam w.digits (10 ∷ rest) in (
         at + length name + length w.digits + 1,
-        rw (w.text, starts_there name (w.digits ++ (10 ∷ rest))) (number_read bs (at + length name) n w.digits rest here w.decimal w.small),
+        rw (w.text, (starts name (name ++ (w.digits ++ (10 ∷ rest)))).1 (w.digits ++ (10 ∷ rest)) refl) (number_read bs (at + length name) n w.digits rest here w.decimal w.small),
         sym (drop-drop 1 (at + length name + length w.digits) bs) ∙ ap (drop 1) after,
       )
 
-  line_then : (e : ℕ) → line_at name bs at ≡ Read n e → StartsWithLine name n (drop at bs) (drop e bs)
+  line_then : (e : ℕ) → line_at name bs at ≡ read n e → StartsWithLine name n (drop at bs) (drop e bs)
   unfolding line_at
-  line_then e = go (starts_with name (drop at bs)) refl
+  line_then e = go (starts_with eqb (drop at bs) name) refl
     where
-      go : (b : Bool) → starts_with name (drop at bs) ≡ b → cond b (number_at bs (at + length name)) (Wrong Name) ≡ Read n e → StartsWithLine name n (drop at bs) (drop e bs)
+      go : (b : Bool) → starts_with eqb (drop at bs) name ≡ b → cond b (number_at bs (at + length name)) (Err Name) ≡ read n e → StartsWithLine name n (drop at bs) (drop e bs)
       go true h x =
           let w = number_then bs (at + length name) n e x in
           record {
             digits = w.0;
-            text = starts_then name (drop at bs) h ∙ ap (λ (l : List ℕ). name ++ l) (drop-drop (length name) at bs ∙ w.1);
+            text = (starts name (drop at bs)).0 h ∙ ap (λ (l : List ℕ). name ++ l) (drop-drop (length name) at bs ∙ w.1);
             decimal = w.2;
             small = w.3;
           }
@@ -265,12 +259,15 @@ module _ (bs : List ℕ) (at : ℕ) (name : List ℕ) (n : ℕ) where
 
 -- THE THREE LINES
 
-no_session : {k : ℕ} {f : Fault} {a b c : ℕ} → Bad k f ≡ Given a b c → ⊥
-no_session x = let u : ◌≡◌ {A = ℕ} 0 1 = cc in omega (arith, u)
+session_value : {a b : Session} → ◌≡◌ {A = Result Session BadLine} (Ok a) (Ok b) → a ≡ b
+session_value x = cc
+
+no_session : {k : ℕ} {f : Fault} {a b c : ℕ} → bad k f ≡ given a b c → ⊥
+no_session x = cc
 
 module _ (type source origin : ℕ) (bs : List ℕ) where
   -- what is written as a session is read as its numbers
-  pub session_read : SessionText type source origin bs → session_of bs ≡ Given type source origin
+  pub session_read : SessionText type source origin bs → session_of bs ≡ given type source origin
   unfolding session_of
   session_read w =
       let x = line_read bs 0 type_name type w.after_type w.first in
@@ -281,38 +278,36 @@ module _ (type source origin : ℕ) (bs : List ℕ) where
       rw (x.1, y.1, z.1, eq-eqb z.0 (length bs) all)
 
   -- what is read as numbers is written as their session
-  pub session_then : session_of bs ≡ Given type source origin → SessionText type source origin bs
+  pub session_then : session_of bs ≡ given type source origin → SessionText type source origin bs
   unfolding session_of
   session_then = go₁ (line_at type_name bs 0) refl
     where
-      go₃ : (t s i j : ℕ) → line_at type_name bs 0 ≡ Read t i → line_at source_name bs i ≡ Read s j → (l : Line) → line_at origin_name bs j ≡ l
-          → after 3 l (λ o k. cond (eqb k (length bs)) (Given t s o) (Bad 4 MoreText)) ≡ Given type source origin → SessionText type source origin bs
-      go₃ t s i j f g (Wrong z) h x = absurd (no_session x)
-      go₃ t s i j f g (Read o k) h x = go (eqb k (length bs)) refl x
+      go₃ : (a b : Line) → line_at type_name bs 0 ≡ Ok a → line_at source_name bs a.end ≡ Ok b → (l : Result Line Fault) → line_at origin_name bs b.end ≡ l
+          → after 3 l (λ o k. cond (eqb k (length bs)) (given a.number b.number o) (bad 4 MoreText)) ≡ given type source origin → SessionText type source origin bs
+      go₃ a b f g (Err z) h x = absurd (no_session x)
+      go₃ a b f g (Ok c) h x = go (eqb c.end (length bs)) refl x
         where
-          go : (b : Bool) → eqb k (length bs) ≡ b → cond b (Given t s o) (Bad 4 MoreText) ≡ Given type source origin → SessionText type source origin bs
+          go : (y : Bool) → eqb c.end (length bs) ≡ y → cond y (given a.number b.number c.number) (bad 4 MoreText) ≡ given type source origin → SessionText type source origin bs
           go true e y =
-              let p : t ≡ type = cc in
-              let q : s ≡ source = cc in
-              let r : o ≡ origin = cc in
-              let none : drop k bs ≡ [] = rw (eqb-true k (length bs) e) (drop-length bs) in
+              let same = session_value y in
+              let none : drop c.end bs ≡ [] = rw (eqb-true c.end (length bs) e) (drop-length bs) in
               record {
-                after_type = drop i bs;
-                after_source = drop j bs;
-                first = line_then bs 0 type_name type i (rw p at f);
-                second = line_then bs i source_name source j (rw q at g);
-                third = rw none at (line_then bs j origin_name origin k (rw r at h));
+                after_type = drop a.end bs;
+                after_source = drop b.end bs;
+                first = line_then bs 0 type_name type a.end (f ∙ (λ i. read (same i).payload_type a.end));
+                second = line_then bs a.end source_name source b.end (g ∙ (λ i. read (same i).ssrc b.end));
+                third = rw none at (line_then bs b.end origin_name origin c.end (h ∙ (λ i. read (same i).origin c.end)));
               }
           go false e y = absurd (no_session y)
 
-      go₂ : (t i : ℕ) → line_at type_name bs 0 ≡ Read t i → (l : Line) → line_at source_name bs i ≡ l
-          → after 2 l (λ s j. after 3 (line_at origin_name bs j) (λ o k. cond (eqb k (length bs)) (Given t s o) (Bad 4 MoreText))) ≡ Given type source origin
+      go₂ : (a : Line) → line_at type_name bs 0 ≡ Ok a → (l : Result Line Fault) → line_at source_name bs a.end ≡ l
+          → after 2 l (λ s j. after 3 (line_at origin_name bs j) (λ o k. cond (eqb k (length bs)) (given a.number s o) (bad 4 MoreText))) ≡ given type source origin
           → SessionText type source origin bs
-      go₂ t i f (Wrong z) h x = absurd (no_session x)
-      go₂ t i f (Read s j) h x = go₃ t s i j f h (line_at origin_name bs j) refl x
+      go₂ a f (Err z) h x = absurd (no_session x)
+      go₂ a f (Ok b) h x = go₃ a b f h (line_at origin_name bs b.end) refl x
 
-      go₁ : (l : Line) → line_at type_name bs 0 ≡ l
-          → after 1 l (λ t i. after 2 (line_at source_name bs i) (λ s j. after 3 (line_at origin_name bs j) (λ o k. cond (eqb k (length bs)) (Given t s o) (Bad 4 MoreText)))) ≡ Given type source origin
+      go₁ : (l : Result Line Fault) → line_at type_name bs 0 ≡ l
+          → after 1 l (λ t i. after 2 (line_at source_name bs i) (λ s j. after 3 (line_at origin_name bs j) (λ o k. cond (eqb k (length bs)) (given t s o) (bad 4 MoreText)))) ≡ given type source origin
           → SessionText type source origin bs
-      go₁ (Wrong z) h x = absurd (no_session x)
-      go₁ (Read t i) h x = go₂ t i h (line_at source_name bs i) refl x
+      go₁ (Err z) h x = absurd (no_session x)
+      go₁ (Ok a) h x = go₂ a h (line_at source_name bs a.end) refl x

@@ -1,14 +1,13 @@
 -- The text of session.txt (01, "The listing program"): exactly three lines `pt=`, `ssrc=` and `origin=`, decimal, no leading
 -- zeros, each ended by a newline; a number above 32 bits is bad. That open refuses a payload type above 127 is open's own rule.
 -- Of a text that is bad it is told which line is wrong, and why.
-use Rattle.std.specs.Prelude.{ℕ, zero, suc, ◌+◌, ◌/◌, ◌%◌, ◌^◌, ◌≤◌, ◌<◌, ◌≡◌, cond, List, [], ◌∷◌, ◌++◌, eqb, length}
+use Rattle.std.specs.Prelude.{ℕ, zero, suc, ◌+◌, ◌/◌, ◌%◌, ◌^◌, ◌≤◌, ◌<◌, ◌≡◌, cond, List, [], ◌∷◌, ◌++◌, eqb, length, Result, Ok, Err}
 use Rattle.lines.specs.declared.Fault.{Fault}
-use Rattle.lines.specs.declared.Fault.TheVariants.{Name, MoreText}
+use Rattle.lines.specs.declared.Fault.TheVariants.{MoreText}
 use Rattle.lines.specs.Lines.{newline, largest, line_at}
 use Rattle.session.specs.declared.Session.{Session}
-use Rattle.session.specs.declared.Session.TheVariants.{Given, Bad}
+use Rattle.session.specs.declared.bad_line.BadLine.{BadLine}
 use Rattle.lines.specs.declared.Line.{Line}
-use Rattle.lines.specs.declared.Line.TheVariants.{Read, Wrong}
 
 -- THE THREE LINES
 
@@ -22,22 +21,29 @@ source_name = 115 ∷ 115 ∷ 114 ∷ 99 ∷ 61 ∷ []
 abbrev pub origin_name : List ℕ
 origin_name = 111 ∷ 114 ∷ 105 ∷ 103 ∷ 105 ∷ 110 ∷ 61 ∷ []
 
--- why a line is none
-abbrev pub fault_of : Line → Fault
-fault_of (Wrong fault) = fault
-fault_of (Read number end) = Name
+-- what a text gives: three numbers, or which line is wrong and why
+abbrev pub given : ℕ → ℕ → ℕ → Result Session BadLine
+given type source origin = Ok (record { payload_type = type; ssrc = source; origin = origin })
+
+abbrev pub bad : ℕ → Fault → Result Session BadLine
+bad k fault = Err (record { line = k; fault = fault })
+
+-- a line as line k: of one that is wrong it is told which it is
+abbrev pub in_line : ℕ → Result Line Fault → Result Line BadLine
+in_line k (Ok line) = Ok line
+in_line k (Err fault) = Err (record { line = k; fault = fault })
 
 -- what follows line k, if it is one
-abbrev pub after : ℕ → Line → (ℕ → ℕ → Session) → Session
-after k (Read number end) next = next number end
-after k (Wrong fault) next = Bad k fault
+abbrev pub after : ℕ → Result Line Fault → (ℕ → ℕ → Result Session BadLine) → Result Session BadLine
+after k (Ok line) next = next line.number line.end
+after k (Err fault) next = bad k fault
 
-unfoldable pub session_of : List ℕ → Session
+unfoldable pub session_of : List ℕ → Result Session BadLine
 session_of bs =
     after 1 (line_at type_name bs 0) (λ type second.
     after 2 (line_at source_name bs second) (λ source third.
     after 3 (line_at origin_name bs third) (λ origin end.
-    cond (eqb end (length bs)) (Given type source origin) (Bad 4 MoreText))))
+    cond (eqb end (length bs)) (given type source origin) (bad 4 MoreText))))
 
 -- THE TEXT AS IT IS WRITTEN: what `session_of` reads, said the other way round (proofs/Written.antt shows that it is the same)
 

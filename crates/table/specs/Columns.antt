@@ -11,7 +11,7 @@ use Rattle.model.specs.Receive.{Receiving, refusing, taken}
 
 -- a column of which the first n places are held, with x put in at place i: later ones move up by one place, and the places
 -- above stay as they are
-unfoldable pub inserted_at : ℕ → ℕ → ℕ → List ℕ → List ℕ
+unfoldable pub inserted_at : {A : Type 0} → ℕ → A → ℕ → List A → List A
 inserted_at i x n l = (take i (take n l) ++ (x ∷ drop i (take n l))) ++ drop (n + 1) l
 
 -- the last step of receiving: a report that nothing refuses before the search

@@ -2,72 +2,42 @@
 #![tactic(auto)]
 
 ghost use Rattle.std.specs.Prelude.{◌≡◌, true, ◌≤◌, ◌<◌, length, get_or, set};
+ghost use Rattle.refusals.specs.Refusals.{number_of};
 ghost use Rattle.model.specs.Table.{table_of, valid};
 ghost use Rattle.model.specs.Receive.{refused_with};
-ghost use Rattle.segment.specs.Merged.{merged_heard};
 ghost use Rattle.table.specs.Columns.{inserted_at, Takes};
 
 use model::{Head, Received};
-use searching::seek_in;
+use refusals::Refusal;
+use searching::{Sought, seek};
 use segment::merged;
 
-// What a receiving call answers.
-fn answer(refusal: u8, is_new: bool, count: usize, probes: usize) -> Received
-    ensures { result ≡ record { refusal = refusal; is_new = is_new; count = count; probes = probes } }
+// What a receiving call answers when it refuses before anything is looked up, with as many segments held as before.
+pub fn refused(refusal: Refusal, count: usize) -> Received
+    ensures { result ≡ refused_with (number_of refusal) count 0 }
 {
     Received {
         refusal: refusal as u64,
-        is_new: is_new,
-        count: count,
-        probes: probes,
+        is_new: false,
+        count,
+        probes: 0,
     }
-}
-
-// What it answers when it refuses before anything is looked up, with as many segments held as before.
-pub fn refused(refusal: u8, count: usize) -> Received
-    ensures { result ≡ refused_with refusal count 0 }
-{
-    answer(refusal, false, count, 0)
 }
 
 // Puts a number in at place i of the n held of a column: later ones move up by one place, the places above stay.
-fn insert_64(column: &mut [u64], n: usize, i: usize, x: u64)
+#[tactic(auto, using(crate::proofs::Shifts::put_in))]
+fn insert<T: Copy>(column: &mut [T], n: usize, i: usize, x: T)
     requires i_le_n { i ≤ n }
     requires n_in_bounds { n < length column.old }
     ensures { column.new ≡ inserted_at i x n column.old }
 {
-    let mut j = n;
-    while i < j {
-        column[j] = column[j - 1];
-        j -= 1;
-    }
+    column.copy_within(i..n, i + 1);
     column[i] = x;
-}
-
-// The same in a column of narrower numbers.
-fn insert_32(column: &mut [u32], n: usize, i: usize, x: u32)
-    requires i_le_n { i ≤ n }
-    requires n_in_bounds { n < length column.old }
-    ensures { column.new ≡ inserted_at i x n column.old }
-{
-    let mut j = n;
-    while i < j {
-        column[j] = column[j - 1];
-        j -= 1;
-    }
-    column[i] = x;
-}
-
-// The segment at place i keeps a report of its pair too.
-fn merge_at(heard: &mut [u32], i: usize, told: u32)
-    requires { i < length heard.old }
-    ensures { heard.new ≡ set heard.old i (merged_heard told (get_or heard.old i 0)) }
-{
-    heard[i] = merged(told, heard[i]);
 }
 
 // Takes a report, given as a segment's two numbers, into a table that passes the tests: a known segment keeps it too, a new
 // one is put in at its place, or refused with 11 if there is no room.
+#[tactic(auto, using(crate::proofs::Laws::taking))]
 pub fn take(
     head: Head,
     keys: &mut [u64; 128],
@@ -78,16 +48,33 @@ pub fn take(
     requires { valid (table_of head keys.old heard.old) ≡ true }
     ensures { Takes head keys.old heard.old key told result keys.new heard.new }
 {
-    let n = head.count;
-    let sought = seek_in(keys, 0, n, key);
-    if sought.held {
-        merge_at(heard, sought.place, told);
-        return answer(0, false, n, sought.probes);
+    let count = head.count;
+    let Sought { place, probes } = seek(&keys[..count], key);
+    match place {
+        Ok(i) => {
+            heard[i] = merged(told, heard[i]);
+            Received {
+                refusal: 0,
+                is_new: false,
+                count,
+                probes,
+            }
+        }
+        Err(_) if 128 <= count => Received {
+            refusal: Refusal::TableFull as u64,
+            is_new: false,
+            count,
+            probes,
+        },
+        Err(i) => {
+            insert(keys, count, i, key);
+            insert(heard, count, i, told);
+            Received {
+                refusal: 0,
+                is_new: true,
+                count: count + 1,
+                probes,
+            }
+        }
     }
-    if 128 <= n {
-        return answer(refusals::TABLE_FULL, false, n, sought.probes);
-    }
-    insert_64(keys, n, sought.place, key);
-    insert_32(heard, n, sought.place, told);
-    answer(0, true, n + 1, sought.probes)
 }

@@ -1,4 +1,4 @@
-// What C and Rust link: the library's calls, with the structs of `results` in place of enums. A slice crosses as a pointer and a length.
+// What C and Rust link: the library's calls, with the structs of `results` in place of Results. A slice crosses as a pointer and a length.
 // Every function checks its own input; refusal 0 means that nothing was refused.
 #![tactic(auto)]
 
@@ -22,14 +22,15 @@ use model::{
     BlocksReceived, Captured, Codes, Event, Head, Listed, OlderReport, Opened, Plan, Received,
     Report,
 };
-use results::{CountResult, EventResult, ReadResult, of_count, of_event, of_read, of_write};
+use grouping::Held;
+use results::{CountResult, EventResult, ReadResult};
 
 // Reads a packet: refusal 1, 2, 3, 4, 17 or 7, 8 if its code is not in the set, or 9, or the report that it carries.
 #[unsafe(no_mangle)]
 pub extern "C" fn twimbor_read(codes: Codes, s: &[u8]) -> ReadResult
     ensures { result ≡ read_result (read codes s.now) }
 {
-    of_read(packet::read(codes, s))
+    ReadResult::from(packet::read(codes, s))
 }
 
 // Writes a report's 16 bytes at the start of the output, or answers 12, also for a code outside the set, or 14, and leaves the output
@@ -39,7 +40,7 @@ pub extern "C" fn twimbor_write(codes: Codes, r: Report, out: &mut [u8]) -> u8
     ensures value { result ≡ (write codes r out.old).answer.number }
     ensures out_after { out.new ≡ (write codes r out.old).output }
 {
-    of_write(writer::write(codes, r, out))
+    results::written(writer::write(codes, r, out))
 }
 
 // How many reports a plan has, or 12, also for a code outside the set.
@@ -47,7 +48,7 @@ pub extern "C" fn twimbor_write(codes: Codes, r: Report, out: &mut [u8]) -> u8
 pub extern "C" fn twimbor_report_count(codes: Codes, p: Plan) -> CountResult
     ensures { result ≡ count_result (report_count codes p) }
 {
-    of_count(plan::report_count(codes, p))
+    CountResult::from(plan::report_count(codes, p))
 }
 
 // Writes report k of a plan, counted from 1, at the start of the output, or answers 12, 13 or 14.
@@ -56,7 +57,7 @@ pub extern "C" fn twimbor_write_report(codes: Codes, p: Plan, k: u32, out: &mut 
     ensures value { result ≡ (write_report codes p k out.old).answer.number }
     ensures out_after { out.new ≡ (write_report codes p k out.old).output }
 {
-    of_write(plan_report::write_report(codes, p, k, out))
+    results::written(plan_report::write_report(codes, p, k, out))
 }
 
 // An empty table for the codes of a set, one payload type and SSRC, or 12 with a table of zeros if the set is empty or the payload
@@ -70,7 +71,7 @@ pub extern "C" fn twimbor_open_table(
 ) -> Opened
     ensures { result ≡ opened codes payload_type ssrc origin }
 {
-    opening::open(codes, payload_type, ssrc, origin)
+    results::opened(opening::open(codes, payload_type, ssrc, origin))
 }
 
 // An empty table for the codes of a set, the event's payload type, that of redundant packets and one SSRC, or 12 with a table of zeros
@@ -85,7 +86,7 @@ pub extern "C" fn twimbor_open_redundant_table(
 ) -> Opened
     ensures { result ≡ opened_both codes payload_type redundant_type ssrc origin }
 {
-    opening::open_redundant(codes, payload_type, redundant_type, ssrc, origin)
+    results::opened(opening::open_redundant(codes, payload_type, redundant_type, ssrc, origin))
 }
 
 // Whether a table passes the tests of refusal 16.
@@ -168,7 +169,7 @@ pub extern "C" fn twimbor_write_redundant(
     ensures value { result ≡ (write_redundant codes r redundant_type count first second out.old).answer.number }
     ensures out_after { out.new ≡ (write_redundant codes r redundant_type count first second out.old).output }
 {
-    of_write(block_writer::write_redundant(codes, r, redundant_type, count, first, second, out))
+    results::written(block_writer::write_redundant(codes, r, redundant_type, count, first, second, out))
 }
 
 // The event at number k, counted from 1 by start, then code, or 16 or 13.
@@ -181,7 +182,7 @@ pub extern "C" fn twimbor_event_at_columns<'a>(
 ) -> EventResult
     ensures { result ≡ event_result (event_at (table_of head keys.now heard.now) k) }
 {
-    of_event(events::event_at(head, keys, heard, k))
+    EventResult::from(events::event_at(head, keys, heard, k))
 }
 
 // Writes the events into the first lent records and answers how many, or 16 or 15; the other records stay.
@@ -195,15 +196,15 @@ pub extern "C" fn twimbor_list_columns<'a>(
     ensures value { result ≡ (list (table_of head keys.now heard.now) out.old).answer }
     ensures out_after { out.new ≡ (list (table_of head keys.now heard.now) out.old).records }
 {
-    let a = events::answer_for(head, keys, heard, out.len());
-    let n = a.events;
-    let mut k = 0usize;
-    let mut from = 0usize;
-    while k < n {
-        let place = events::event_place(keys, heard, head.count, from, 0usize);
-        out[k] = grouping::event_from(keys, heard, head.count, place);
-        from = place + 1usize;
-        k += 1usize;
+    let answer = events::answer_for(head, keys, heard, out.len());
+    if let Ok(n) = answer {
+        let held = Held::of(keys, heard, head.count);
+        let mut from = 0;
+        for k in 0..n {
+            let place = events::event_place(held, from, 0);
+            out[k] = held.event_from(place);
+            from = place + 1;
+        }
     }
-    a
+    results::listed(answer)
 }

@@ -6,14 +6,14 @@ ghost use Rattle.code_writer.specs.CodesWritten.{write_codes};
 ghost use Rattle.results.specs.Results.{codes_result, text_result, lowest_result};
 
 use model::Codes;
-use results::{CodesResult, LowestResult, TextResult, of_codes, of_lowest, of_text};
+use results::{CodesResult, LowestResult, TextResult};
 
 // The set that a text gives, as 0-15,66,70, or 20 for any other text.
 #[unsafe(no_mangle)]
 pub extern "C" fn twimbor_read_codes(text: &[u8]) -> CodesResult
     ensures { result ≡ codes_result (read_codes text.now) }
 {
-    of_codes(code_text::read_codes(text))
+    CodesResult::from(code_text::read_codes(text))
 }
 
 // Writes a set's text at the start of the output and answers how many bytes it has, or 20 or 14, and leaves the output as it is.
@@ -22,7 +22,7 @@ pub extern "C" fn twimbor_write_codes(codes: Codes, out: &mut [u8]) -> TextResul
     ensures value { result ≡ text_result (write_codes codes out.old).answer }
     ensures out_after { out.new ≡ (write_codes codes out.old).output }
 {
-    of_text(code_writer::write_codes(codes, out))
+    TextResult::from(code_writer::write_codes(codes, out))
 }
 
 // Whether a code is in the set; none above 255 is.
@@ -46,5 +46,5 @@ pub extern "C" fn twimbor_codes_count(codes: Codes) -> u32
 pub extern "C" fn twimbor_codes_lowest(codes: Codes) -> LowestResult
     ensures { result ≡ lowest_result (lowest_of codes) }
 {
-    of_lowest(codes::lowest(codes))
+    LowestResult::from(codes::lowest(codes))
 }

@@ -9,7 +9,7 @@ use model::{BlockStep, Cursor, HeaderStep, WalkStart};
 pub extern "C" fn twimbor_walk_start(packet: &[u8]) -> WalkStart
     ensures { result ≡ walk_start packet.now }
 {
-    blocks::step::walk_start(packet)
+    results::walk_started(blocks::step::walk_start(packet))
 }
 
 // The block at a cursor, whatever its numbers, and the cursor after it.

@@ -1,5 +1,5 @@
 -- The codes of keys against a set: one by one, or all at once if they are among the 16 lowest and the set has all of these.
-use Rattle.std.proofs.Common.{◌≡◌, ℕ, zero, suc, ◌+◌, ◌/◌, ◌%◌, ◌^◌, ◌<◌, ◌≤◌, Bool, true, false, not, List, get_or, sym, refl, ap, ◌∙◌, true≢false, div-one, arith, eq-eqb}
+use Rattle.std.proofs.Common.{◌≡◌, ℕ, zero, suc, ◌+◌, ◌/◌, ◌%◌, ◌^◌, ◌<◌, ◌≤◌, Bool, true, false, not, List, length, get_or, sym, refl, ap, ◌∙◌, true≢false, div-one, arith, eq-eqb}
 use borrow.Author.Tests.{not-true, not-false}
 use Rattle.model.specs.declared.Codes.{Codes}
 use Rattle.model.specs.Codes.{is_in}
@@ -40,9 +40,9 @@ has_low_code s c e h =
 
 -- ALL AT ONCE
 
-pub all_are_low : (s : Codes) (keys : List ℕ) (n highest : ℕ) → AtMost keys n highest → highest < 16 → s.from_0 % 65536 ≡ 65535
-    → Tells true (CodesPass s keys n)
-all_are_low s keys n highest m h e = record {
+pub all_are_low : (s : Codes) (keys : List ℕ) (highest : ℕ) → AtMost keys highest → highest < 16 → s.from_0 % 65536 ≡ 65535
+    → Tells true (CodesPass s keys)
+all_are_low s keys highest m h e = record {
   then = λ x. record { each = λ i l. has_low_code s (get_or keys i 0 % 256) e (omega (arith, m.each i l)) };
   if = λ p. refl;
 }
@@ -50,26 +50,16 @@ all_are_low s keys n highest m h e = record {
 -- ONE BY ONE
 
 -- the codes of the first i keys are in the set
-pub record Found (s : Codes) (keys : List ℕ) (n i : ℕ) : Type 0 where
-  pub upto : i ≤ n
-  pub so_far : (j : ℕ) → j < i → is_in s (get_or keys j 0 % 256) ≡ true
+abbrev pub Found : Codes → List ℕ → ℕ → Type 0
+Found s keys i = (j : ℕ) → j < i → is_in s (get_or keys j 0 % 256) ≡ true
 
-module _ (s : Codes) (keys : List ℕ) (n : ℕ) where
-  pub none_looked_at : Found s keys n 0
-  none_looked_at = record { upto = omega arith; so_far = λ j h. absurd (omega arith) }
+module _ (s : Codes) (keys : List ℕ) where
+  module _ (i : ℕ) (w : Found s keys i) (more : i < length keys) (b : Bool) (e : b ≡ is_in s (get_or keys i 0 % 256)) where
+    pub code_missing : not b ≡ true → Tells false (CodesPass s keys)
+    code_missing h = told_no (λ p. true≢false (sym (p.each i more) ∙ sym e ∙ not-true b h))
 
-  module _ (i : ℕ) (w : Found s keys n i) where
-    module _ (more : i < n) (b : Bool) (e : b ≡ is_in s (get_or keys i 0 % 256)) where
-      pub code_missing : not b ≡ true → Tells false (CodesPass s keys n)
-      code_missing h = told_no (λ p. true≢false (sym (p.each i more) ∙ sym e ∙ not-true b h))
+    pub next_found : not b ≡ false → Found s keys (i + 1)
+    next_found h = one_more (λ j. is_in s (get_or keys j 0 % 256) ≡ true) i w (sym e ∙ not-false b h)
 
-      pub next_found : not b ≡ false → Found s keys n (i + 1)
-      next_found h = record {
-        upto = omega arith;
-        so_far = one_more (λ j. is_in s (get_or keys j 0 % 256) ≡ true) i w.so_far (sym e ∙ not-false b h);
-      }
-
-    pub all_found : n ≤ i → Tells true (CodesPass s keys n)
-    all_found done =
-        let all : i ≡ n = omega (arith, w.upto) in
-        record { then = λ x. record { each = rw all at w.so_far }; if = λ p. refl }
+  pub all_found : Found s keys (length keys) → Tells true (CodesPass s keys)
+  all_found w = record { then = λ x. record { each = w }; if = λ p. refl }

@@ -1,6 +1,6 @@
 -- The tests of the keys in one pass that decides nothing on its way. `or` gathers the bits that some number has, and it is below a power
 -- of two exactly if all numbers are; `and` gathers those that all have.
-use Rattle.std.proofs.Common.{◌≡◌, ℕ, ◌+◌, ◌-◌, ◌/◌, ◌%◌, ◌^◌, ◌<◌, ◌≤◌, false, List, get_or, ◌∙◌, ⊎_elim, eq-or-lt_of_le, arith}
+use Rattle.std.proofs.Common.{◌≡◌, ℕ, ◌+◌, ◌-◌, ◌/◌, ◌%◌, ◌^◌, ◌<◌, ◌≤◌, false, List, length, get_or, Some, None, ◌∙◌, ⊎_elim, eq-or-lt_of_le, arith}
 use mathlib.Core.Bool.{false≢true}
 use lib.Bits.{bit_and, bit_or, or_lt, or_mod, or_add_and, and_shr, and_self, and_le_l, and_le_r}
 use Rattle.valid.specs.Passes.{KeysPass, Tells, Ranks}
@@ -41,15 +41,12 @@ Rises keys i = (j : ℕ) → j + 1 < i → get_or keys j 0 < get_or keys (j + 1)
 pub told_no : {P : Type 0} → (P → ⊥) → Tells false P
 told_no n = record { then = λ e. absurd (false≢true e); if = λ p. absurd (n p) }
 
-pub ranks_none : {keys : List ℕ} {n : ℕ} → (KeysPass keys n → ⊥) → Ranks keys n 256
-ranks_none f = record { pass = λ x. absurd (omega arith); most = λ x. absurd (omega arith); fail = λ x. f }
-
 -- THE KEYS
 
 -- the first i keys are gathered in `bits`, and what each leaves of the one before it in `rises`
-pub record Keyed (keys : List ℕ) (n i bits rises : ℕ) : Type 0 where
+pub record Keyed (keys : List ℕ) (i bits rises : ℕ) : Type 0 where
   pub some : 1 ≤ i
-  pub upto : i ≤ n
+  pub upto : i ≤ length keys
   pub near_then : bits < 0x80_0000_0000 → Below keys i 0x80_0000_0000
   pub near_if : Below keys i 0x80_0000_0000 → bits < 0x80_0000_0000
   pub coded : (j : ℕ) → j < i → get_or keys j 0 % 256 ≤ bits % 256
@@ -67,11 +64,11 @@ leaves_63 a b d p s h k l = omega arith
 both_63 : (a b : ℕ) → a < 2 ^ 64 → b < 2 ^ 64 → 0x8000_0000_0000_0000 ≤ a → 0x8000_0000_0000_0000 ≤ b → 0x8000_0000_0000_0000 ≤ bit_and a b
 both_63 a b s t h k = omega (arith, and_top 63 a b (omega arith) (omega arith))
 
-module _ (keys : List ℕ) (n : ℕ) where
+module _ (keys : List ℕ) where
   first_only : (P : ℕ → Type 0) → P (get_or keys 0 0) → (j : ℕ) → j < 1 → P (get_or keys j 0)
   first_only P p j h = let z : j ≡ 0 = omega arith in rw z p
 
-  pub keys_start : (n ≡ 0 → ⊥) → Keyed keys n 1 (get_or keys 0 0) 0x8000_0000_0000_0000
+  pub keys_start : (length keys ≡ 0 → ⊥) → Keyed keys 1 (get_or keys 0 0) 0x8000_0000_0000_0000
   keys_start h = record {
     some = omega arith;
     upto = omega arith;
@@ -83,8 +80,8 @@ module _ (keys : List ℕ) (n : ℕ) where
     rise_if = λ a b. omega arith;
   }
 
-  module _ (i bits rises : ℕ) (w : Keyed keys n i bits rises) where
-    module _ (more : i < n) (d : ℕ) (p : (d + get_or keys i 0) % 2 ^ 64 ≡ get_or keys (i - 1) 0) (s : d < 2 ^ 64) where
+  module _ (i bits rises : ℕ) (w : Keyed keys i bits rises) where
+    module _ (more : i < length keys) (d : ℕ) (p : (d + get_or keys i 0) % 2 ^ 64 ≡ get_or keys (i - 1) 0) (s : d < 2 ^ 64) where
       abbrev key : ℕ
       key = get_or keys i 0
 
@@ -100,7 +97,7 @@ module _ (keys : List ℕ) (n : ℕ) where
           upto_last : (j : ℕ) → j + 1 < i + 1 → j + 1 ≤ i
           upto_last j h = omega arith
 
-      pub keys_go_on : Keyed keys n (i + 1) (bit_or bits key) (bit_and rises d)
+      pub keys_go_on : Keyed keys (i + 1) (bit_or bits key) (bit_and rises d)
       keys_go_on = record {
         some = omega arith;
         upto = omega arith;
@@ -120,28 +117,18 @@ module _ (keys : List ℕ) (n : ℕ) where
           fewer : bit_or bits key < 0x80_0000_0000 → bits < 0x80_0000_0000
           fewer h = omega (arith, or_above_l bits key)
 
-    -- all keys are gathered
-    module _ (done : n ≤ i) where
-      all : i ≡ n
-      all = omega (arith, w.upto)
+  -- all keys are gathered
+  module _ (bits rises : ℕ) (w : Keyed keys (length keys) bits rises) where
+    pub key_too_far : 0x80_0000_0000 ≤ bits → Ranks keys None
+    key_too_far h k = omega (arith, w.near_if k.near)
 
-      pub key_too_far : 0x80_0000_0000 ≤ bits → Ranks keys n 256
-      key_too_far h = ranks_none (λ k. omega (arith, w.near_if (rw all k.near)))
+    module _ (near : bits < 0x80_0000_0000) where
+      pub keys_fall : rises < 0x8000_0000_0000_0000 → Ranks keys None
+      keys_fall h k = omega (arith, w.rise_if k.near k.rise)
 
-      module _ (near : bits < 0x80_0000_0000) where
-        pub keys_fall : rises < 0x8000_0000_0000_0000 → Ranks keys n 256
-        keys_fall h = ranks_none (λ k. omega (arith, w.rise_if (rw all k.near) (rw all k.rise)))
+      pub keys_rise : 0x8000_0000_0000_0000 ≤ rises → Ranks keys (Some (bits % 256))
+      keys_rise h = (record { near = w.near_then near; rise = w.rise_then near h }, record { each = w.coded })
 
-        pub keys_rise : 0x8000_0000_0000_0000 ≤ rises → Ranks keys n (bits % 256)
-        keys_rise h = record {
-          pass = λ x. record { near = rw all at (w.near_then near); rise = rw all at (w.rise_then near h) };
-          most = λ x. record { each = rw all at w.coded };
-          fail = λ x. absurd (omega arith);
-        }
-
-pub no_keys : (keys : List ℕ) (n : ℕ) → n ≡ 0 → Ranks keys n 0
-no_keys keys n e = record {
-  pass = λ x. record { near = λ i h. absurd (omega arith); rise = λ i h. absurd (omega arith) };
-  most = λ x. record { each = λ i h. absurd (omega arith) };
-  fail = λ x. absurd (omega arith);
-}
+pub no_keys : (keys : List ℕ) → length keys ≡ 0 → Ranks keys (Some 0)
+no_keys keys e =
+    (record { near = λ i h. absurd (omega arith); rise = λ i h. absurd (omega arith) }, record { each = λ i h. absurd (omega arith) })

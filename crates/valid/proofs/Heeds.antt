@@ -1,5 +1,5 @@
 -- The tests of what was heard, in one pass that decides nothing on its way.
-use Rattle.std.proofs.Common.{◌≡◌, ℕ, ◌+◌, ◌-◌, ◌*◌, ◌/◌, ◌%◌, ◌<◌, ◌≤◌, eqb, List, get_or, refl, ap, ◌∙◌, arith, eq-eqb, eqb-true}
+use Rattle.std.proofs.Common.{◌≡◌, ℕ, ◌+◌, ◌-◌, ◌*◌, ◌/◌, ◌%◌, ◌<◌, ◌≤◌, eqb, List, length, get_or, refl, ap, ◌∙◌, arith, eq-eqb, eqb-true}
 use lib.Bits.{bit_and, and_shr, and_mod, and_self, and_le_l, and_le_r}
 use Rattle.valid.specs.Passes.{InRange, HeardPass, Shows, Weighs, Tells}
 use Rattle.valid.proofs.Gathers.{and_top, one_more}
@@ -67,38 +67,29 @@ abbrev Each : List ℕ → ℕ → Type 0
 Each heard i = (j : ℕ) → j < i → InRange (get_or heard j 0)
 
 -- what shows it of the first i numbers is gathered in `shown`
-pub record Heeded (heard : List ℕ) (n i shown : ℕ) : Type 0 where
-  pub upto : i ≤ n
+pub record Heeded (heard : List ℕ) (i shown : ℕ) : Type 0 where
   pub small : shown ≤ 0x8001_0000
   pub then : Shows shown → Each heard i
   pub if : Each heard i → Shows shown
 
-module _ (heard : List ℕ) (n : ℕ) where
-  pub heard_start : Heeded heard n 0 0x8001_0000
+module _ (heard : List ℕ) where
+  pub heard_start : Heeded heard 0 0x8001_0000
   heard_start = record {
-    upto = omega arith;
     small = omega arith;
     then = λ x j h. absurd (omega arith);
     if = λ f. shows_if 0x8001_0000 refl;
   }
 
-  module _ (i shown : ℕ) (w : Heeded heard n i shown) where
-    module _ (more : i < n) (d : ℕ) (s : d < 0x1_0000_0000) (p : Weighs (get_or heard i 0) d) where
-      pub heard_goes_on : Heeded heard n (i + 1) (bit_and shown d)
-      heard_goes_on = record {
-        upto = omega arith;
-        small = omega (arith, and_le_l shown d, w.small);
-        then = λ x. one_more (λ j. InRange (get_or heard j 0)) i (w.then (and_shows_l shown d x)) (p.then (and_shows_r shown d x));
-        if = λ f. and_shows shown d (omega (arith, w.small)) s (w.if (λ j l. f j (omega arith))) (p.if (f i (omega arith)));
-      }
+  pub heard_goes_on : (i shown : ℕ) → Heeded heard i shown → (d : ℕ) → d < 0x1_0000_0000 → Weighs (get_or heard i 0) d → Heeded heard (i + 1) (bit_and shown d)
+  heard_goes_on i shown w d s p = record {
+    small = omega (arith, and_le_l shown d, w.small);
+    then = λ x. one_more (λ j. InRange (get_or heard j 0)) i (w.then (and_shows_l shown d x)) (p.then (and_shows_r shown d x));
+    if = λ f. and_shows shown d (omega (arith, w.small)) s (w.if (λ j l. f j (omega arith))) (p.if (f i (omega arith)));
+  }
 
-    -- all numbers are gathered
-    module _ (done : n ≤ i) where
-      whole : i ≡ n
-      whole = omega (arith, w.upto)
-
-      pub heard_by_shown : Tells (eqb shown 0x8001_0000) (HeardPass heard n)
-      heard_by_shown = record {
-        then = λ e. record { each = rw whole at (w.then (shows_if shown (eqb-true shown 0x8001_0000 e))) };
-        if = λ k. eq-eqb shown 0x8001_0000 (shows_then shown w.small (w.if (rw whole k.each)));
-      }
+  -- all numbers are gathered
+  pub heard_by_shown : (shown : ℕ) → Heeded heard (length heard) shown → Tells (eqb shown 0x8001_0000) (HeardPass heard)
+  heard_by_shown shown w = record {
+    then = λ e. record { each = w.then (shows_if shown (eqb-true shown 0x8001_0000 e)) };
+    if = λ k. eq-eqb shown 0x8001_0000 (shows_then shown w.small (w.if k.each));
+  }

@@ -14,7 +14,7 @@ use Rattle.valid.proofs.Heeds.{
   heard_goes_on,
   heard_by_shown,
 }
-use Rattle.valid.proofs.Coded.{none_looked_at, code_missing, next_found, all_found}
+use Rattle.valid.proofs.Coded.{code_missing, next_found, all_found}
 use Rattle.valid.proofs.Tests.{
   type_high,
   one_type,
@@ -43,7 +43,6 @@ pub ruleset testing = (
   heard_start,
   heard_goes_on,
   heard_by_shown,
-  none_looked_at,
   code_missing,
   next_found,
   all_found,

@@ -3,3 +3,4 @@ pub mod Heeds
 pub mod Coded
 pub mod Tests
 pub mod Laws
+pub mod Firsts

@@ -1,5 +1,5 @@
 -- The tests of refusal 16: a table passes them exactly if its head and each of its columns does.
-use Rattle.std.proofs.Common.{◌≡◌, ℕ, ◌+◌, ◌%◌, ◌<◌, ◌≤◌, Bool, true, false, cond, not, eqb, leb, List, length, get_or, sym, refl, ◌∙◌, arith, ltb-true, lt-ltb, eq-eqb, ne_eqb, le-leb}
+use Rattle.std.proofs.Common.{◌≡◌, ℕ, ◌+◌, ◌%◌, ◌<◌, ◌≤◌, Bool, true, false, cond, not, eqb, leb, List, length, get_or, take, Option, Some, None, sym, refl, ◌∙◌, arith, ltb-true, lt-ltb, eq-eqb, ne_eqb, le-leb}
 use mathlib.Core.Bool.{and-false, false≢true}
 use borrow.Author.Tests.{lt-leb, not-true, not-false}
 use Rattle.model.specs.declared.Head.{Head}
@@ -11,7 +11,8 @@ use Rattle.theorems.proofs.Order.{◌≺◌, before_if}
 use Rattle.theorems.proofs.Numbers.{key_back}
 use Rattle.theorems.proofs.Places.{entries_rise}
 use Rattle.theorems.proofs.Tables.{ValidSegment, valid_then, valid_if, tests_passed, held_length, held_at, valid_from, all_valid_from, rising_from}
-use Rattle.valid.specs.Passes.{CodesPass, KeysPass, HeardPass, Tells, Ranks, Highest}
+use Rattle.valid.specs.Passes.{CodesPass, KeysPass, HeardPass, Tells, Ranks, AllButCodes, Highest}
+use Rattle.valid.proofs.Firsts.{FirstKeys, FirstHeard, FirstCodes, keys_there, keys_alone, heard_there, heard_alone, codes_there, codes_alone}
 use Rattle.valid.proofs.Coded.{all_are_low}
 use Rattle.segment.proofs.Keys.{before_key}
 
@@ -59,7 +60,7 @@ module _ (h : Head) (keys heard : List ℕ) where
         valid_then h.codes (segment_at keys heard i)
         (valid_from h.codes keys heard h.count 0 (tests_passed table v).each i (omega arith) (omega arith))
 
-    valid_keys : KeysPass keys h.count
+    valid_keys : FirstKeys keys h.count
     valid_keys = record {
       near = λ i l. omega (arith, (at_place i l).offset);
       rise = λ i l. rw (key_back (get_or keys i 0) (get_or heard i 0), key_back (get_or keys (i + 1) 0) (get_or heard (i + 1) 0)) at (keys_rise i l);
@@ -74,16 +75,16 @@ module _ (h : Head) (keys heard : List ℕ) where
         keys_rise i l =
             ltb-true _ _ (sym (before_key (segment_at keys heard i) (segment_at keys heard (i + 1)) (omega arith) (omega arith)) ∙ before_if (rises_there i l))
 
-    valid_heard : HeardPass heard h.count
+    valid_heard : FirstHeard heard h.count
     valid_heard = record {
       each = λ i l. let s = at_place i l in record { long = s.some; ordered = s.volume };
     }
 
-    valid_codes : CodesPass h.codes keys h.count
+    valid_codes : FirstCodes h.codes keys h.count
     valid_codes = record { each = λ i l. (at_place i l).code }
 
-  module _ (k : KeysPass keys h.count) (w : HeardPass heard h.count) where
-    place_valid : CodesPass h.codes keys h.count → (i : ℕ) → i < h.count → valid_segment h.codes (segment_at keys heard i) ≡ true
+  module _ (k : FirstKeys keys h.count) (w : FirstHeard heard h.count) where
+    place_valid : FirstCodes h.codes keys h.count → (i : ℕ) → i < h.count → valid_segment h.codes (segment_at keys heard i) ≡ true
     place_valid c i l = valid_if h.codes (segment_at keys heard i) (record {
       offset = omega (arith, k.near i l);
       code = c.each i l;
@@ -98,7 +99,7 @@ module _ (h : Head) (keys heard : List ℕ) where
         before_key (segment_at keys heard i) (segment_at keys heard (i + 1)) (omega arith) (omega arith)
         ∙ lt-ltb _ _ (rw (← key_back (get_or keys i 0) (get_or heard i 0), ← key_back (get_or keys (i + 1) 0) (get_or heard (i + 1) 0)) at (k.rise i l))
 
-    all_pass : h.count ≤ 128 → valid_types h ≡ true → CodesPass h.codes keys h.count → valid table ≡ true
+    all_pass : h.count ≤ 128 → valid_types h ≡ true → FirstCodes h.codes keys h.count → valid table ≡ true
     unfolding valid
     all_pass few types c =
         and_both (le-leb h.count 128 few) (and_both (rising_from keys heard h.count 0 (λ i a b. place_rises i (omega arith)))
@@ -112,49 +113,55 @@ module _ (h : Head) (keys heard : List ℕ) where
       go true q = absurd (n (f q))
       go false q = refl
 
-  failing : false ≡ valid table → Highest table 256
-  failing e = record {
-    few = λ x. absurd (omega arith);
-    most = λ x. absurd (omega arith);
-    decides = λ x. absurd (omega arith);
-    fails = λ x. e;
-  }
-
-  pub too_many_held : 128 < h.count → Highest table 256
-  too_many_held l = failing (too_many table l)
+  pub too_many_held : 128 < h.count → Highest table None
+  too_many_held l = too_many table l
 
   module _ (few : h.count ≤ 128) (d : Bool) (is : d ≡ valid_types h) where
-    pub types_fail : not d ≡ true → Highest table 256
-    types_fail x = failing (wrong_types table few d is x)
+    pub types_fail : not d ≡ true → Highest table None
+    types_fail x = wrong_types table few d is x
 
-    module _ (x : not d ≡ false) (highest : ℕ) (r : Ranks keys h.count highest) where
-      pub keys_fail : 255 < highest → Highest table 256
-      keys_fail l = failing (fails_unless (KeysPass keys h.count) valid_keys (r.fail l))
+    module _ (x : not d ≡ false) (keys_long : length keys ≡ 128) (heard_long : length heard ≡ 128) where
+      keys_within : h.count ≤ length keys
+      keys_within = omega arith
 
-      module _ (l : highest ≤ 255) (c : Bool) (u : Tells c (HeardPass heard h.count)) where
-        pub heard_fail : not c ≡ true → Highest table 256
+      heard_within : h.count ≤ length heard
+      heard_within = omega arith
+
+      pub keys_fail : Ranks (take h.count keys) None → Highest table None
+      keys_fail r = fails_unless (FirstKeys keys h.count) valid_keys (λ k. r (keys_alone keys h.count keys_within k))
+
+      module _ (m : ℕ) (r : Ranks (take h.count keys) (Some m)) (c : Bool) (u : Tells c (HeardPass (take h.count heard))) where
+        pub heard_fail : not c ≡ true → Highest table None
         heard_fail y =
-            failing (fails_unless (HeardPass heard h.count) valid_heard (λ w. false≢true (sym (not-true c y) ∙ u.if w)))
+            fails_unless (FirstHeard heard h.count) valid_heard
+            (λ w. false≢true (sym (not-true c y) ∙ u.if (heard_alone heard h.count heard_within w)))
 
-        pub codes_left : not c ≡ false → Highest table highest
-        codes_left y = record { few = λ a. few; most = r.most; decides = λ a. decide; fails = λ a. absurd (omega arith) }
+        pub codes_left : not c ≡ false → Highest table (Some m)
+        codes_left y = record { few = few; most = r.1; decides = decide }
           where
-            decide : (b : Bool) → Tells b (CodesPass h.codes keys h.count) → b ≡ valid table
-            decide true s = sym (all_pass (r.pass l) (u.then (not-false c y)) few (sym is ∙ not-false d x) (s.then refl))
-            decide false s = fails_unless (CodesPass h.codes keys h.count) valid_codes (λ p. false≢true (s.if p))
+            decide : (b : Bool) → Tells b (CodesPass h.codes (take h.count keys)) → b ≡ valid table
+            decide true s =
+                sym (all_pass (keys_there keys h.count keys_within r.0) (heard_there heard h.count heard_within (u.then (not-false c y))) few
+                (sym is ∙ not-false d x) (codes_there keys h.count keys_within h.codes (s.then refl)))
+            decide false s =
+                fails_unless (FirstCodes h.codes keys h.count) valid_codes
+                (λ p. false≢true (s.if (codes_alone keys h.count keys_within h.codes p)))
 
 -- BY THE HIGHEST CODE
 
-pub few_held : (h : Head) (keys heard : List ℕ) (highest : ℕ) → Highest (table_of h keys heard) highest → highest ≤ 255
-    → length keys ≡ 128 → h.count ≤ length keys
-few_held h keys heard highest w low long = omega (arith, w.few low)
+pub few_held : (h : Head) (keys heard : List ℕ) (m : ℕ) → Highest (table_of h keys heard) (Some m) → length keys ≡ 128 → h.count ≤ length keys
+few_held h keys heard m w long = omega (arith, w.few)
 
-module _ (t : Table) (highest : ℕ) (w : Highest t highest) where
-  pub all_keys : highest < 16 → t.head.codes.from_0 % 65536 ≡ 65535 → true ≡ valid t
-  all_keys h e = w.decides (omega arith) true (all_are_low t.head.codes t.keys t.head.count highest (w.most (omega arith)) h e)
+module _ (t : Table) where
+  pub none_passes : Highest t None → false ≡ valid t
+  none_passes w = w
 
-  pub none_passes : 255 < highest → false ≡ valid t
-  none_passes = w.fails
+  module _ (o : Option ℕ) (w : Highest t o) (m : ℕ) (is : o ≡ Some m) where
+    here : AllButCodes t m
+    here = rw is at w
 
-  pub by_codes : highest ≤ 255 → (b : Bool) → Tells b (CodesPass t.head.codes t.keys t.head.count) → b ≡ valid t
-  by_codes = w.decides
+    pub all_keys : m < 16 → t.head.codes.from_0 % 65536 ≡ 65535 → true ≡ valid t
+    all_keys h e = here.decides true (all_are_low t.head.codes (take t.head.count t.keys) m here.most h e)
+
+    pub by_codes : (b : Bool) → Tells b (CodesPass t.head.codes (take t.head.count t.keys)) → b ≡ valid t
+    by_codes = here.decides

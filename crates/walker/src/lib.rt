@@ -1,87 +1,52 @@
-// The walker: it stands on a packet and hands out the next block as a part of the caller's bytes.
+// The walker: it stands on a packet and hands out one block after another, with its part of the caller's bytes.
 #![tactic(auto)]
 
-ghost use Rattle.std.specs.Prelude.{min, ◌≡◌};
-ghost use Rattle.model.specs.Walk.{walk_start, block_step, part_of};
+ghost use Rattle.std.specs.Prelude.{◌≡◌};
+ghost use Rattle.walker.specs.Hands.{Hands, left};
 
-use blocks::step::{block_step, walk_start};
-use model::{BlockStep, Cursor};
+use blocks::step::{Block, block_at, walk_start};
+use model::Cursor;
+use refusals::Refusal;
 
-#[derive(Drop)]
+#[derive(Clone, Copy)]
 pub struct Walker<'a> {
     pub packet: &'a [u8],
     pub cursor: Cursor,
 }
 
-// A walker at the first block, and refusal 0; or the refusal's number, and a walker that has no block.
-#[derive(Drop)]
-pub struct Started<'a> {
-    pub walker: Walker<'a>,
-    pub refusal: u8,
-}
-
-// What a step finds, the block's data, which are none if it found no block, and the walker that goes on.
-#[derive(Drop)]
+// A block, and its bytes.
+#[derive(Clone, Copy)]
 pub struct Part<'a> {
-    pub step: BlockStep,
-    pub block: &'a [u8],
-    pub rest: Walker<'a>,
+    pub block: Block,
+    pub bytes: &'a [u8],
 }
 
-fn smaller(a: usize, b: usize) -> usize
-    ensures { result ≡ min a b }
-{
-    if a < b {
-        return a;
-    }
-    b
-}
+impl<'a> Walker<'a> {
+    ghost use Rattle.walker.specs.Hands.{Starts};
 
-// The part from `start` up to `end` of a slice, or as much of it as there is.
-pub fn part_of(s: &[u8], start: usize, end: usize) -> &[u8]
-    ensures { result.now ≡ part_of s.now start end }
-{
-    let to = smaller(end, s.len());
-    if to < start {
-        return &s[..0];
-    }
-    &s[start..to]
-}
-
-// Starts a walk over a packet's blocks: refusals 1 to 4, 18 and 19.
-pub fn start<'a>(packet: &'a [u8]) -> Started<'a>
-    ensures refusal { result.refusal ≡ (walk_start packet.now).refusal }
-    ensures cursor { result.walker.cursor ≡ (walk_start packet.now).cursor }
-    ensures same_packet { result.walker.packet ≡ packet.entry }
-{
-    let s = walk_start(packet);
-    let cursor = s.cursor;
-    let refusal = s.refusal;
-    Started {
-        walker: Walker {
-            packet: packet,
-            cursor: cursor,
-        },
-        refusal: refusal,
+    // A walker at the first block of a packet: refusals 1 to 4, 18 and 19.
+    pub fn start(packet: &'a [u8]) -> Result<Self, Refusal>
+        ensures { Starts packet.entry result }
+    {
+        let cursor = walk_start(packet)?;
+        Ok(Walker { packet, cursor })
     }
 }
 
 // The next block, if there is one more.
-pub fn next<'a>(w: Walker<'a>) -> Part<'a>
-    ensures step { result.step ≡ block_step w.entry.packet.now w.entry.cursor }
-    ensures block { result.block.now ≡ part_of w.entry.packet.now result.step.start result.step.end }
-    ensures same_packet { result.rest.packet ≡ w.entry.packet }
-    ensures cursor { result.rest.cursor ≡ result.step.after }
-{
-    let step = block_step(w.packet, w.cursor);
-    let block = part_of(w.packet, step.start, step.end);
-    let after = step.after;
-    Part {
-        step: step,
-        block: block,
-        rest: Walker {
-            packet: w.packet,
-            cursor: after,
-        },
+impl<'a> Iterator for Walker<'a> {
+    type Item = Part<'a>;
+
+    ghost next_gives = { Hands };
+
+    ghost remaining = { left };
+
+    fn next(&mut self) -> Option<Part<'a>> {
+        let block = block_at(self.packet, self.cursor)?;
+        self.cursor = block.after;
+        Some(Part {
+            block,
+            bytes: &self.packet[block.start..block.end],
+        })
     }
 }

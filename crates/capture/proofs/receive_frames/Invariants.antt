@@ -3,8 +3,8 @@ use lib.ListN.{length}
 use Rattle.capture.proofs.Laws.{Progress}
 use Rattle.capture.proofs.receive_frames.Given as goal
 
-abbrev pub invariant-loop-tally : goal.invariant-loop-tally
-invariant-loop-tally l = Progress l.initial.after l.initial.keys l.initial.heard l.frames l.after l.tally l.keys l.heard
+abbrev pub invariant-loop-start : goal.invariant-loop-start
+invariant-loop-start l = Progress l.initial.table l.frames l.table l.tally
 
-abbrev pub decreases-loop-tally : goal.decreases-loop-tally
-decreases-loop-tally l = length l.frames - l.tally.used
+abbrev pub decreases-loop-start : goal.decreases-loop-start
+decreases-loop-start l = length l.frames - l.tally.used

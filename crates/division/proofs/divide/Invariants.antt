@@ -4,6 +4,3 @@ use Rattle.division.proofs.divide.Given as goal
 
 abbrev pub invariant-loop-k : goal.invariant-loop-k
 invariant-loop-k l = Dividing l.n l.d l.bits l.quotient l.remainder l.k
-
-abbrev pub decreases-loop-k : goal.decreases-loop-k
-decreases-loop-k l = l.k

@@ -1,32 +1,23 @@
+use Rattle.std.proofs.lemmas.Result.{err_from_is_err_and}
 use Rattle.locating.proofs.Locates.{locates}
 use Rattle.locating.proofs.header_for_both.Goals as goal
 
-pub header_of-found-requires : goal.header_of-found-requires
-header_of-found-requires c = search locates
-
-pub enum_known-found : goal.enum_known-found
-enum_known-found c = search locates
-
-pub enum_told-1 : goal.enum_told-1
-enum_told-1 c = search locates
-
-pub returns-in_default : goal.returns-in_default
-returns-in_default c = search locates
+pub returns-in_err-place : goal.returns-in_err-place
+returns-in_err-place c =
+    let e = err_from_is_err_and c.from_residual.result c.from_residual.ensures.1 in
+    rw (e.1, e.2) (search (locates, c.in_err-place.ensures))
 
 pub payload_type-requires : goal.payload_type-requires
-payload_type-requires c = search locates
-
-pub is_for-requires : goal.is_for-requires
-is_for-requires c = search locates
+payload_type-requires c = search (locates, c.in_ok-place.ensures)
 
 pub returns-then-not-is_for : goal.returns-then-not-is_for
-returns-then-not-is_for c = search locates
+returns-then-not-is_for c = search (locates, c.in_ok-place.ensures)
 
 pub ssrc-requires : goal.ssrc-requires
-ssrc-requires c = search locates
+ssrc-requires c = search (locates, c.in_ok-place.ensures)
 
 pub returns-then-ssrc-head : goal.returns-then-ssrc-head
-returns-then-ssrc-head c = search locates
+returns-then-ssrc-head c = search (locates, c.in_ok-place.ensures)
 
 pub returns : goal.returns
-returns c = search locates
+returns c = search (locates, c.in_ok-place.ensures)

@@ -1,56 +1,34 @@
-use Rattle.locating.proofs.Locates.{too_few_entries, blocks_located, locates}
+use Rattle.std.proofs.lemmas.Result.{err_from_is_err_and}
+use Rattle.locating.proofs.Locates.{locates}
 use Rattle.locating.proofs.locate.Goals as goal
 
-pub header_for_both-found-requires : goal.header_for_both-found-requires
-header_for_both-found-requires c = search locates
-
-pub enum_known-found : goal.enum_known-found
-enum_known-found c = search locates
-
-pub enum_told-1 : goal.enum_told-1
-enum_told-1 c = search locates
-
-pub header_refusal-requires : goal.header_refusal-requires
-header_refusal-requires c = search locates
-
-pub unlocated-requires : goal.unlocated-requires
-unlocated-requires c = search locates
-
-pub returns-in_default : goal.returns-in_default
-returns-in_default c = search locates
+pub returns-in_err-start : goal.returns-in_err-start
+returns-in_err-start c =
+    let e = err_from_is_err_and c.from_residual.result c.from_residual.ensures.1 in
+    rw (e.1, e.2) (search (locates, c.in_err-start.ensures))
 
 pub payload_type-requires : goal.payload_type-requires
-payload_type-requires c = search locates
-
-pub unlocated-requires-then-room-lt1 : goal.unlocated-requires-then-room-lt1
-unlocated-requires-then-room-lt1 c = search locates
+payload_type-requires c = search (locates, c.in_ok-start.ensures)
 
 pub returns-then-room-lt1 : goal.returns-then-room-lt1
-returns-then-room-lt1 c = search locates
-
-pub located_at-requires : goal.located_at-requires
-located_at-requires c = search locates
+returns-then-room-lt1 c = search (locates, c.in_ok-start.ensures)
 
 pub returns-then-payload_type-head : goal.returns-then-payload_type-head
-returns-then-payload_type-head c = search locates
+returns-then-payload_type-head c = search (locates, c.in_ok-start.ensures)
 
-pub scan-said-requires : goal.scan-said-requires
-scan-said-requires c = search locates
+pub scan-requires-clause-start_le_end : goal.scan-requires-clause-start_le_end
+scan-requires-clause-start_le_end c = search (locates, c.in_ok-start.ensures)
 
-pub unlocated-requires-then-said-ne0 : goal.unlocated-requires-then-said-ne0
-unlocated-requires-then-said-ne0 c = search locates
+pub scan-requires-clause-end_in_bounds : goal.scan-requires-clause-end_in_bounds
+scan-requires-clause-end_in_bounds c = search (locates, c.in_ok-start.ensures)
 
-pub returns-then-said-ne0 : goal.returns-then-said-ne0
-returns-then-said-ne0 c = search locates
+pub returns-in_err-scanned : goal.returns-in_err-scanned
+returns-in_err-scanned c =
+    let e = err_from_is_err_and c.from_residual-in_err-scanned.result c.from_residual-in_err-scanned.ensures.1 in
+    rw (e.1, e.2) (search (locates, c.in_ok-start.ensures, c.in_err-scanned.ensures))
 
-pub unlocated-requires-then-room-said : goal.unlocated-requires-then-room-said
-unlocated-requires-then-room-said c = search locates
-
-pub returns-then-room-said : goal.returns-then-room-said
-returns-then-room-said c = search too_few_entries
-
-pub located_at-requires-2 : goal.located_at-requires-2
-located_at-requires-2 c = search locates
+pub returns-then-room-scanned : goal.returns-then-room-scanned
+returns-then-room-scanned c = search (locates, c.in_ok-start.ensures, c.in_ok-scanned.ensures)
 
 pub returns : goal.returns
-returns c = search blocks_located
+returns c = search (locates, c.in_ok-start.ensures, c.in_ok-scanned.ensures)

@@ -1,36 +1,21 @@
--- The two stages one after the other; the part handed to the second is the payload, since the first found its place.
-use Rattle.packet.proofs.Laws.{reading}
+-- The header's packet is the one that was given, and its payload is heard.
+use mathlib.Core.Path.{◌∙◌, ap}
+use Rattle.std.proofs.lemmas.Result.{err_from_is_err_and}
+use Rattle.payload.specs.Stage.{payload_of}
+use Rattle.packet.proofs.Laws.{unheard, all_read}
 use Rattle.packet.proofs.read.Goals as goal
 
-pub returns-in_default : goal.returns-in_default
-returns-in_default c = search reading
-
-pub slice_bounds-payload_of-count : goal.slice_bounds-payload_of-count
-slice_bounds-payload_of-count c = search reading
-
-pub slice_bounds-payload_of-start : goal.slice_bounds-payload_of-start
-slice_bounds-payload_of-start c = search reading
-
-pub slice_bounds-payload_of-end : goal.slice_bounds-payload_of-end
-slice_bounds-payload_of-end c = search reading
-
-pub returns-in_default-p : goal.returns-in_default-p
-returns-in_default-p c = search reading
-
-pub marker-requires : goal.marker-requires
-marker-requires c = search reading
-
-pub payload_type-requires : goal.payload_type-requires
-payload_type-requires c = search reading
-
-pub sequence-requires : goal.sequence-requires
-sequence-requires c = search reading
-
-pub timestamp-requires : goal.timestamp-requires
-timestamp-requires c = search reading
-
-pub ssrc-requires : goal.ssrc-requires
-ssrc-requires c = search reading
+pub returns-in_err-payload : goal.returns-in_err-payload
+returns-in_err-payload c =
+    let h = c.in_ok-header.header in
+    let e = err_from_is_err_and c.from_residual-in_err-payload.result c.from_residual-in_err-payload.ensures.1 in
+    rw (e.1, e.2, ← c.in_ok-header.ensures)
+    (unheard h.packet.now c.args.codes h.unrefused _ (c.in_err-payload.ensures ∙ ap (payload_of c.args.codes) c.payload.ensures))
 
 pub returns : goal.returns
-returns c = search reading
+returns c =
+    let h = c.in_ok-header.header in
+    rw (c.from.ensures, c.from-2.ensures, c.from-3.ensures, c.from-4.ensures, ← c.in_ok-header.ensures)
+    (all_read h.packet.now c.args.codes h.unrefused c.in_ok-payload.payload
+      (c.in_ok-payload.ensures ∙ ap (payload_of c.args.codes) c.payload.ensures)
+      _ _ _ _ _ c.marker.ensures c.payload_type.ensures c.sequence.ensures c.timestamp.ensures c.ssrc.ensures)

@@ -1,10 +1,6 @@
--- The loop goes from event to event, and the buffer has room for the next.
-use Rattle.std.proofs.Common.{◌-◌}
+-- The loop goes from event to event, and the text has room for the next.
 use Rattle.printing.proofs.Laws.{Printing}
 use Rattle.printing.proofs.events.Given as goal
 
-abbrev pub invariant-loop-k : goal.invariant-loop-k
-invariant-loop-k l = Printing l.head l.keys l.heard l.fn.b l.b l.n l.k l.from l.end
-
-abbrev pub decreases-loop-k : goal.decreases-loop-k
-decreases-loop-k l = l.n - l.k
+abbrev pub invariant-loop : goal.invariant-loop
+invariant-loop l = Printing l.head l.keys l.heard l.fn.text l.text l.n l.counter l.from

@@ -1,10 +1,6 @@
 -- The gathered bits tell of all keys so far.
-use Rattle.std.proofs.Common.{◌-◌}
 use Rattle.valid.proofs.Gathers.{Keyed}
 use Rattle.valid.proofs.highest_of.Given as goal
 
 abbrev pub invariant-loop-i : goal.invariant-loop-i
-invariant-loop-i l = Keyed l.keys l.n l.i l.bits l.rises
-
-abbrev pub decreases-loop-i : goal.decreases-loop-i
-decreases-loop-i l = l.n - l.i
+invariant-loop-i l = Keyed l.keys l.i l.bits l.rises

@@ -1,29 +1,14 @@
-use Rattle.writer.proofs.Writes.{writing}
+-- The part that is written is as long as the piece.
+use Prim.Native.Nat.{◌+◌, ◌-◌}
+use mathlib.Core.Path.{◌≡◌}
+use native.Mathlib.Omega.{arith}
+use lib.ListN.{length}
+use Rattle.writer.specs.Pieces.{put_at}
 use Rattle.writer.proofs.put.Goals as goal
 
-pub loop-i-init : goal.loop-i-init
-loop-i-init c = search writing
-
-pub bounds-p-i : goal.bounds-p-i
-bounds-p-i c = search writing
-
-pub overflow_add-out : goal.overflow_add-out
-overflow_add-out c = search writing
-
-pub bounds-out-at : goal.bounds-out-at
-bounds-out-at c = search writing
-
-pub overflow_add-i : goal.overflow_add-i
-overflow_add-i c = search writing
-
-pub loop-i-smaller : goal.loop-i-smaller
-loop-i-smaller c = search writing
-
-pub loop-i-preserved : goal.loop-i-preserved
-loop-i-preserved c = search writing
-
-pub shape_of-out : goal.shape_of-out
-shape_of-out c = search writing
-
 pub returns : goal.returns
-returns c = search writing
+unfolding put_at
+returns c =
+    let n = length c.args.p.now in
+    let as_long : c.args.at + n - c.args.at ≡ n = omega arith in
+    rw (c.copy_from_slice.ensures.after, as_long)

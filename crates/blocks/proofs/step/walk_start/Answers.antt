@@ -1,32 +1,21 @@
-use Rattle.blocks.proofs.Steps.{stepping}
+-- What the headers of the blocks say is where the walk starts.
+use Rattle.std.proofs.lemmas.Result.{err_from_is_err_and}
+use Rattle.blocks.proofs.Steps.{no_start, not_carried, started}
 use Rattle.blocks.proofs.step.walk_start.Goals as goal
 
-pub header_of-h-requires : goal.header_of-h-requires
-header_of-h-requires c = search stepping
+pub returns-in_err-header : goal.returns-in_err-header
+returns-in_err-header c =
+    let e = err_from_is_err_and c.from_residual.result c.from_residual.ensures.1 in
+    rw (e.1, e.2) (no_start c.args.s.now _ c.in_err-header.ensures)
 
-pub enum_known-h : goal.enum_known-h
-enum_known-h c = search stepping
-
-pub enum_told-1 : goal.enum_told-1
-enum_told-1 c = search stepping
-
-pub header_refusal-requires : goal.header_refusal-requires
-header_refusal-requires c = search stepping
-
-pub refused_start-requires : goal.refused_start-requires
-refused_start-requires c = search stepping
-
-pub returns-in_default : goal.returns-in_default
-returns-in_default c = search stepping
-
-pub scan-said-requires : goal.scan-said-requires
-scan-said-requires c = search stepping
-
-pub refused_start-requires-then-said-ne0 : goal.refused_start-requires-then-said-ne0
-refused_start-requires-then-said-ne0 c = search stepping
-
-pub returns-then-said-ne0 : goal.returns-then-said-ne0
-returns-then-said-ne0 c = search stepping
+pub returns-in_err-scanned : goal.returns-in_err-scanned
+returns-in_err-scanned c =
+    let h = c.in_ok-header.header in
+    let e = err_from_is_err_and c.from_residual-in_err-scanned.result c.from_residual-in_err-scanned.ensures.1 in
+    rw (e.1, e.2, ← c.in_ok-header.ensures) (not_carried h.packet.now h.unrefused h.start h.end h.starts h.ends _ c.in_err-scanned.ensures)
 
 pub returns : goal.returns
-returns c = search stepping
+returns c =
+    let h = c.in_ok-header.header in
+    rw (← c.in_ok-header.ensures)
+    (started h.packet.now h.unrefused h.start h.end h.starts h.ends c.in_ok-scanned.scanned c.in_ok-scanned.ensures)
