@@ -112,9 +112,6 @@ module _ (keys heard : List ℕ) where
           (valid_from head.codes keys heard head.count 0 p.each i (omega arith) (omega arith)) in
           omega (arith, s.offset)
 
-  pub fewer : (n i : ℕ) → InRanges keys heard n → i < n → InRanges keys heard (i + 1)
-  fewer n i r h = record { few = omega (arith, r.few); each = λ j l. r.each j (omega arith) }
-
   -- the segments from a place on
   abbrev rest : ℕ → ℕ → List Segment
   rest n i = segments_from keys heard i (n - i)
@@ -155,9 +152,6 @@ module _ (keys heard : List ℕ) where
         back =
             let z : j ≡ suc (j - 1) = omega arith in
             ap (λ (n : ℕ). not (continues_nearest (earlier keys heard n) (segment_at keys heard i))) (sym z) ∙ w.same
-
-        pub look_within : InRanges keys heard (i + 1) → InRanges keys heard (j - 1 + 1)
-        look_within r = fewer (i + 1) (j - 1) r (omega (arith, w.within))
 
         pub look_passes : (get_or keys (j - 1) 0 % 256 ≡ get_or keys i 0 % 256 → ⊥) → Looking i (j - 1)
         unfolding continues_nearest
@@ -286,7 +280,6 @@ module _ (keys heard : List ℕ) where
 
 pub ruleset grouping = (
   rules,
-  fewer,
   look_marked,
   look_starts,
   look_ends,
