@@ -5,11 +5,11 @@ use mathlib.Core.Bool.{Bool, true, false, not}
 use mathlib.Core.List.{List}
 use native.Mathlib.Omega.{arith}
 use borrow.Author.Rules.{rules}
-use borrow.Author.Tests.{eqb-true, eq-eqb, ne_eqb, lt-ltb, le-ltb, not-true, not-false}
+use borrow.Author.Tests.{eq-eqb, ne_eqb, lt-ltb, le-ltb, not-true, not-false}
 use lib.Dec.{eqb}
 use lib.ListN.{length, length-map}
 use Rattle.model.specs.declared.Head.{Head}
-use Rattle.model.specs.Packet.{header_refusal, after_header, payload, payload_type, ssrc}
+use Rattle.model.specs.Packet.{header_refusal, after_header, payload, payload_type, timestamp, marker, ssrc}
 use Rattle.model.specs.Blocks.{last_header, blocks_refusal, blocks}
 use Rattle.model.specs.Walk.{cursor, payload_ends, part_of}
 use Rattle.model.specs.Redundant.{is_plain, of_type, arrival_of, reports_in, refusal_for_both, refusal_of_both}
@@ -22,7 +22,7 @@ use Rattle.block_headers.specs.declared.Scanned.{Scanned}
 use Rattle.block_headers.specs.Headers.{nothing_scanned, scan_in, scan_of}
 use Rattle.block_headers.proofs.Scanning.{says_refusal, says_none, says_body, says_count}
 use Rattle.theorems.proofs.Walks.{length_part}
-use Rattle.locating.specs.declared.Located.TheVariants as located
+use Rattle.locating.specs.declared.Blocks.TheVariants as at
 use Rattle.locating.specs.Located.{is_for, nowhere, locating}
 
 -- WHOSE PACKET IT IS
@@ -80,10 +80,10 @@ module _ (h : Head) (bs : List ℕ) where
     to : end ≡ payload_ends bs
     to =
         let long : length (payload bs) ≡ end - start =
-            ap length (sym its_part) ∙ length_part bs start end (ends_within bs read start end from to_end) in
+        ap length (sym its_part) ∙ length_part bs start end (ends_within bs read start end from to_end) in
         omega (arith, long, from, starts_before_end bs read start end from to_end)
 
-    module _ (room kind : ℕ) (is_kind : kind ≡ payload_type bs) where
+    module _ (time : ℕ) (is_time : time ≡ timestamp bs) (m : Bool) (is_m : m ≡ marker bs) (room kind : ℕ) (is_kind : kind ≡ payload_type bs) where
       -- a plain packet's is one
       module _ (is_of_type : kind ≡ h.payload_type) where
         plain : is_plain h bs ≡ true
@@ -93,9 +93,9 @@ module _ (h : Head) (bs : List ℕ) where
         unfolding locating refusal_of_both reports_in
         plain_without_entry l = rw (unrefused, plain, lt-ltb room 1 l)
 
-        pub plain_located : 1 ≤ room → answered (located.Plain (cursor start start end)) ≡ locating h bs room
+        pub plain_located : 1 ≤ room → answered (record { timestamp = time; marked = m; blocks = at.Plain (cursor start start end) }) ≡ locating h bs room
         unfolding locating refusal_of_both reports_in
-        plain_located l = rw (unrefused, plain, le-ltb room 1 l, from, to)
+        plain_located l = rw (unrefused, plain, le-ltb room 1 l, from, to, is_time, is_m)
 
       module _ (other : kind ≡ h.payload_type → ⊥) where
         not_plain : is_plain h bs ≡ false
@@ -128,10 +128,10 @@ module _ (h : Head) (bs : List ℕ) where
           unfolding locating refusal_of_both
           too_few_entries l = rw (unrefused, not_plain, no_other, ← counted, lt-ltb room x.of_type l)
 
-          pub blocks_located : x.of_type ≤ room → answered (located.Redundant (cursor start x.body end)) ≡ locating h bs room
+          pub blocks_located : x.of_type ≤ room → answered (record { timestamp = time; marked = m; blocks = at.Redundant (cursor start x.body end) }) ≡ locating h bs room
           unfolding locating refusal_of_both
           blocks_located l =
-              rw (unrefused, not_plain, no_other, ← counted, le-ltb room x.of_type l, body, from, to)
+              rw (unrefused, not_plain, no_other, ← counted, le-ltb room x.of_type l, body, from, to, is_time, is_m)
 
 pub ruleset locates = (
   rules,

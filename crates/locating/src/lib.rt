@@ -23,9 +23,17 @@ fn is_for(payload_type: u8, both_types: u8, redundant_type: u8, kind: u8) -> boo
 
 // Where a packet's blocks stand: a plain packet has one, whose body is all its payload.
 #[derive(Clone, Copy)]
-pub enum Located {
+pub enum Blocks {
     Plain(Cursor),
     Redundant(Cursor),
+}
+
+// A packet's timestamp and marker, and where its blocks stand.
+#[derive(Clone, Copy)]
+pub struct Located {
+    pub timestamp: u32,
+    pub marked: bool,
+    pub blocks: Blocks,
 }
 
 // Reads the header of a packet as far as its payload's place, and refuses one that is not the table's: 1 to 6.
@@ -54,34 +62,44 @@ pub fn locate(head: Head, packet: &[u8], room: usize) -> Result<Located, Refusal
     ensures { told nowhere result ≡ locating head packet.now room }
 {
     let header = header_for_both(head, packet)?;
+    let timestamp = header.timestamp();
+    let marked = header.marker();
     if header.payload_type() == head.payload_type {
         if room < 1 {
             return Err(Refusal::ListTooSmall);
         }
-        return Ok(Located::Plain(Cursor {
-            header: header.start,
-            body: header.start,
-            end: header.end,
-        }));
+        return Ok(Located {
+            timestamp,
+            marked,
+            blocks: Blocks::Plain(Cursor {
+                header: header.start,
+                body: header.start,
+                end: header.end,
+            }),
+        });
     }
     let scanned = scan(header, head.payload_type)?;
     if room < scanned.of_type {
         return Err(Refusal::ListTooSmall);
     }
-    Ok(Located::Redundant(Cursor {
-        header: header.start,
-        body: scanned.body,
-        end: header.end,
-    }))
+    Ok(Located {
+        timestamp,
+        marked,
+        blocks: Blocks::Redundant(Cursor {
+            header: header.start,
+            body: scanned.body,
+            end: header.end,
+        }),
+    })
 }
 
 // The first block of a packet, where a table's payload type is this one.
-#[tactic(auto, using(crate::proofs::Whole::FirstBlock))]
+#[tactic(auto, using(crate::proofs::Whole::first_blocks))]
 pub fn first_block(payload_type: u8, packet: &[u8], located: Located) -> Option<Block>
     ensures { step_of (cursor_in located) result ≡ first_step payload_type packet.now located }
 {
-    match located {
-        Located::Plain(cursor) => Some(primary_at(cursor, payload_type)),
-        Located::Redundant(cursor) => block_at(packet, cursor),
+    match located.blocks {
+        Blocks::Plain(cursor) => Some(primary_at(cursor, payload_type)),
+        Blocks::Redundant(cursor) => block_at(packet, cursor),
     }
 }

@@ -1,7 +1,7 @@
 -- How far the blocks of a packet have been taken, and each way on.
 use Prim.Native.Nat.{ℕ, zero, suc, ◌+◌, ◌-◌, ◌≤◌, ◌<◌}
 use mathlib.Core.Path.{◌≡◌, refl, sym, ◌∙◌, ap}
-use mathlib.Core.Bool.{Bool, true, false, cond}
+use mathlib.Core.Bool.{Bool, true, false}
 use mathlib.Core.List.{List, [], ◌∷◌, map}
 use native.Mathlib.Omega.{arith}
 use borrow.Author.Rules.{rules}
@@ -31,7 +31,7 @@ use Rattle.locating.specs.Located.{cursor_in, first_step, Locates}
 use Rattle.block_taking.specs.Enters.{report_at, InPlace, Ready, EntersBlock, EntersOrPasses}
 use Rattle.redundant.specs.Takes.{TakesReports}
 use Rattle.locating.proofs.Begins.{left, left_of_type, left_of_other, Ahead, ahead, begins}
-use Rattle.locating.proofs.Whole.{unrefused, enough, whole_header}
+use Rattle.locating.proofs.Whole.{unrefused, enough}
 
 -- ENTRIES FROM A PLACE ON
 
@@ -240,4 +240,4 @@ module _ (t : Tested) (bs entries : List ℕ) (t' : Tested) (i : ℕ) (entries' 
             let n = e.passes k in
             rw (n.0, n.1, n.2) (passed_over k next x)
 
-pub ruleset blockwise = (rules, bytes_fit, whole_header, starts, all_taken, ready, goes_on, fewer)
+pub ruleset blockwise = (rules, bytes_fit, starts, all_taken, ready, goes_on, fewer)

@@ -10,7 +10,6 @@ ghost use Rattle.redundant.specs.Takes.{TakesReports};
 
 use block_taking::take_or_pass;
 use blocks::step::block_at;
-use header::{marker, timestamp};
 use locating::{Located, first_block, locate};
 use model::{BlocksReceived, Head};
 use receive::Tested;
@@ -18,21 +17,19 @@ use refusals::Refusal;
 
 // Takes the blocks of the event's type, a plain packet's one among them, and passes over the others. Answers how many it took.
 #[tactic(auto, using(crate::proofs::Blockwise::blockwise))]
-fn take_blocks(
-    table: &mut Tested,
-    packet: &[u8],
-    located: Located,
-    entries: &mut [u32],
-) -> usize
+fn take_blocks(table: &mut Tested, packet: &[u8], located: Located, entries: &mut [u32]) -> usize
     requires { Locates table.old.head packet.now (length entries.old) located }
     ensures { TakesReports table.old packet.now entries.old result table.new entries.new }
 {
-    let time = timestamp(packet);
-    let marked = marker(packet);
+    let Located {
+        timestamp,
+        marked,
+        ..
+    } = located;
     let mut taken = 0;
     let mut next = first_block(table.head.payload_type, packet, located);
     while let Some(block) = next {
-        taken = take_or_pass(table, packet, time, marked, block, taken, entries);
+        taken = take_or_pass(table, packet, timestamp, marked, block, taken, entries);
         next = block_at(packet, block.after);
     }
     taken

@@ -16,21 +16,21 @@ returns-in_err-scanned c =
     let u = for_it (goal.at.returns-in_err-scanned c).In_ok-header in
     let e = err_from_is_err_and c.from_residual-in_err-scanned.result c.from_residual-in_err-scanned.ensures.1 in
     rw (e.1, e.2, ← c.in_ok-header.ensures.same_packet)
-    (blocks_refused c.args.head h.packet.now u h.start h.end h.starts h.ends c.args.room _ c.payload_type.ensures c.if-payload_type-head.false _
-      c.in_err-scanned.ensures)
+    (blocks_refused c.args.head h.packet.now u h.start h.end h.starts h.ends _ c.timestamp-timestamp.ensures _ c.marker-marked.ensures c.args.room _ c.payload_type.ensures c.if-payload_type-head.false _
+    c.in_err-scanned.ensures)
 
 pub returns-then-room-scanned : goal.returns-then-room-scanned
 returns-then-room-scanned c =
     let h = c.in_ok-header.header in
     let u = for_it (goal.at.returns-then-room-scanned c).In_ok-header in
     rw (← c.in_ok-header.ensures.same_packet)
-    (too_few_entries c.args.head h.packet.now u h.start h.end h.starts h.ends c.args.room _ c.payload_type.ensures
-      c.if-payload_type-head.false c.in_ok-scanned.scanned c.in_ok-scanned.ensures c.if-room-scanned.true)
+    (too_few_entries c.args.head h.packet.now u h.start h.end h.starts h.ends _ c.timestamp-timestamp.ensures _ c.marker-marked.ensures c.args.room _ c.payload_type.ensures
+    c.if-payload_type-head.false c.in_ok-scanned.scanned c.in_ok-scanned.ensures c.if-room-scanned.true)
 
 pub returns : goal.returns
 returns c =
     let h = c.in_ok-header.header in
     let u = for_it (goal.at.returns c).In_ok-header in
     rw (← c.in_ok-header.ensures.same_packet)
-    (blocks_located c.args.head h.packet.now u h.start h.end h.starts h.ends c.args.room _ c.payload_type.ensures c.if-payload_type-head.false
-      c.in_ok-scanned.scanned c.in_ok-scanned.ensures c.if-room-scanned.false)
+    (blocks_located c.args.head h.packet.now u h.start h.end h.starts h.ends _ c.timestamp-timestamp.ensures _ c.marker-marked.ensures c.args.room _ c.payload_type.ensures c.if-payload_type-head.false
+    c.in_ok-scanned.scanned c.in_ok-scanned.ensures c.if-room-scanned.false)
