@@ -168,7 +168,15 @@ pub extern "C" fn twimbor_write_redundant(
     ensures value { result ≡ (write_redundant codes r redundant_type count first second out.old).answer.number }
     ensures out_after { out.new ≡ (write_redundant codes r redundant_type count first second out.old).output }
 {
-    results::written(block_writer::write_redundant(codes, r, redundant_type, count, first, second, out))
+    results::written(block_writer::write_redundant(
+        codes,
+        r,
+        redundant_type,
+        count,
+        first,
+        second,
+        out,
+    ))
 }
 
 // The event at number k, counted from 1 by start, then code, or 16 or 13.
