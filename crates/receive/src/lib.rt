@@ -33,8 +33,12 @@ impl Tested<'_> {
     {
         match hear_packet(self.head, packet) {
             Ok(said) => {
-                let Received { refusal, is_new, count, probes } =
-                    take(self.head, self.keys, self.heard, said.key, said.told);
+                let Received {
+                    refusal,
+                    is_new,
+                    count,
+                    probes,
+                } = take(self.head, self.keys, self.heard, said.key, said.told);
                 self.head.count = count;
                 Received {
                     refusal,
@@ -54,8 +58,12 @@ impl Tested<'_> {
     {
         match hear(self.head, timestamp, marked, payload) {
             Ok(said) => {
-                let Received { refusal, is_new, count, probes } =
-                    take(self.head, self.keys, self.heard, said.key, said.told);
+                let Received {
+                    refusal,
+                    is_new,
+                    count,
+                    probes,
+                } = take(self.head, self.keys, self.heard, said.key, said.told);
                 self.head.count = count;
                 Received {
                     refusal,
