@@ -18,12 +18,7 @@ use refusals::Refusal;
 
 // Takes the blocks of the event's type, a plain packet's one among them, and passes over the others. Answers how many it took.
 #[tactic(auto, using(crate::proofs::Blockwise::blockwise))]
-fn take_blocks(
-    table: &mut Tested,
-    packet: &[u8],
-    located: Located,
-    entries: &mut [u32],
-) -> usize
+fn take_blocks(table: &mut Tested, packet: &[u8], located: Located, entries: &mut [u32]) -> usize
     requires { Locates table.old.head packet.now (length entries.old) located }
     ensures { TakesReports table.old packet.now entries.old result table.new entries.new }
 {
