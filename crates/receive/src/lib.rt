@@ -1,5 +1,5 @@
-// The receiving call, in place on a table whose columns are lent. The methods are put into their callers: a call costs as much as a third
-// of one. What `take` answers goes on field by field: copied whole, it is read in wider pieces than it was written in, and waits for them.
+// The receiving call, in place on a table whose columns are lent. The methods are put into their callers, which saves a call for each
+// packet. What `take` answers goes on field by field: copied whole, it is read in wider pieces than it was written in, and waits for them.
 #![tactic(auto)]
 
 ghost use Rattle.std.specs.Prelude.{◌≤◌, ◌≡◌, true};
@@ -11,7 +11,7 @@ mod steps;
 use hearing::hear;
 use model::{Head, Received};
 use refusals::Refusal;
-use steps::{hear_packet, passes};
+use steps::hear_packet;
 use table::{refused, take};
 
 // A table that passes the tests, in columns that are lent.
@@ -86,7 +86,7 @@ pub fn receive(head: Head, keys: &mut [u64; 128], heard: &mut [u32; 128], packet
         ≡ (receive (table_of head keys.old heard.old) packet.now).table }
     ensures probes_bound { result.probes ≤ 8 }
 {
-    if !passes(head, keys, heard) {
+    if !valid::is_valid(head, keys, heard) {
         return refused(Refusal::InvalidTable, head.count);
     }
     let mut table = Tested { head, keys, heard };

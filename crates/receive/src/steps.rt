@@ -1,8 +1,6 @@
-// The steps of receiving a packet: the table's tests, the header and the payload. Each is small enough for the compiler to put it into
-// the receiving calls.
+// The steps of receiving a packet: its header and its payload.
 ghost use Rattle.std.specs.Prelude.{◌≡◌};
 ghost use Rattle.refusals.specs.Refusals.{told};
-ghost use Rattle.model.specs.Table.{table_of, valid};
 ghost use Rattle.model.specs.Receive.{refusal_for};
 ghost use Rattle.header.specs.Reads.{ReadsUnless};
 ghost use Rattle.hearing.specs.Sayings.{nothing_heard};
@@ -12,14 +10,6 @@ use header::Header;
 use hearing::{Heard, hear};
 use model::Head;
 use refusals::Refusal;
-
-// Whether the table passes the tests of refusal 16, in their two steps.
-pub(crate) fn passes<'a>(head: Head, keys: &'a [u64; 128], heard: &'a [u32; 128]) -> bool
-    ensures { result ≡ valid (table_of head keys.now heard.now) }
-{
-    let highest = valid::highest_code(head, keys, heard);
-    valid::passes(head, keys, heard, highest)
-}
 
 // Reads the header of a packet as far as its payload's place, and refuses one that is not the table's: 1 to 6.
 #[tactic(auto, using(crate::proofs::Stepwise::steps))]
