@@ -44,7 +44,10 @@ fn one_more(header: Header, payload_type: u8, so_far: SoFar) -> SoFar
     let at = so_far.at;
     SoFar {
         at: at + 4,
-        total: so_far.total.saturating_add(length_at(s, at)).min(header.end),
+        total: so_far
+            .total
+            .saturating_add(length_at(s, at))
+            .min(header.end),
         of_type: so_far.of_type + usize::from(s[at] % 128 == payload_type),
     }
 }

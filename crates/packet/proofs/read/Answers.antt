@@ -17,5 +17,5 @@ returns c =
     let h = c.in_ok-header.header in
     rw (c.from.ensures, c.from-2.ensures, c.from-3.ensures, c.from-4.ensures, ← c.in_ok-header.ensures.same_packet)
     (all_read h.packet.now c.args.codes h.unrefused c.in_ok-payload.payload
-      (c.in_ok-payload.ensures ∙ ap (payload_of c.args.codes) c.payload.ensures)
-      _ _ _ _ _ c.marker.ensures c.payload_type.ensures c.sequence.ensures c.timestamp.ensures c.ssrc.ensures)
+    (c.in_ok-payload.ensures ∙ ap (payload_of c.args.codes) c.payload.ensures)
+    _ _ _ _ _ c.marker.ensures c.payload_type.ensures c.sequence.ensures c.timestamp.ensures c.ssrc.ensures)
