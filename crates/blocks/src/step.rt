@@ -128,7 +128,7 @@ pub fn walk_start(s: &[u8]) -> Result<Cursor, Refusal>
     ensures { walk_start_of (told no_cursor result) ≡ walk_start s.now }
 {
     let header = Header::read(s)?;
-    let scanned = scan(header, 0)?;
+    let scanned = scan(s, header.start, header.end, 0)?;
     Ok(Cursor {
         header: header.start,
         body: scanned.body,

@@ -229,6 +229,4 @@ pub ruleset heading = (
   end_found,
 )
 
-pub ruleset whole = (rules, header_whole)
-
 pub ruleset lying = (rules, starts_before_end, ends_within, payload_there)

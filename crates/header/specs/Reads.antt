@@ -12,7 +12,7 @@ pub record Refuses (n tests : ℕ) : Type 0 where
 
 pub record Passes (tests : ℕ) (packet : Bor (List ℕ)) (h : Header) : Type 0 where
   pub none_refuses : tests ≡ none
-  pub same_packet : h.packet ≡ packet
+  pub same_packet : h.fixed.packet ≡ packet
 
 abbrev pub ReadsUnless : ℕ → Bor (List ℕ) → Result Header Refusal → Type 0
 ReadsUnless tests packet r = MatchResult r (Passes tests packet) (λ refusal. Refuses (number_of refusal) tests)

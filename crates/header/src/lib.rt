@@ -9,15 +9,58 @@ ghost use Rattle.header.specs.Stage.{start_of, payload_end, end_of};
 use big_endian::{number_16, number_32};
 use refusals::Refusal;
 
+// The fixed header, a packet's first 12 bytes, and all that stands behind it.
+#[derive(Clone, Copy)]
+pub struct Fixed<'a> {
+    pub packet: &'a [u8],
+    pub ghost whole: { 12 ≤ length packet.now },
+}
+
+impl Fixed<'_> {
+    ghost use Rattle.model.specs.Packet.{marker, payload_type, sequence, timestamp, ssrc};
+
+    // M.
+    pub fn marker(self) -> bool
+        ensures { result ≡ marker self.entry.packet.now }
+    {
+        self.packet[1] / 128 == 1
+    }
+
+    // PT.
+    pub fn payload_type(self) -> u8
+        ensures { result ≡ payload_type self.entry.packet.now }
+    {
+        self.packet[1] % 128
+    }
+
+    pub fn sequence(self) -> u16
+        ensures { result ≡ sequence self.entry.packet.now }
+    {
+        number_16(self.packet, 2)
+    }
+
+    pub fn timestamp(self) -> u32
+        ensures { result ≡ timestamp self.entry.packet.now }
+    {
+        number_32(self.packet, 4)
+    }
+
+    pub fn ssrc(self) -> u32
+        ensures { result ≡ ssrc self.entry.packet.now }
+    {
+        number_32(self.packet, 8)
+    }
+}
+
 // A packet whose header was read, and nothing refused; its payload lies from `start` up to `end`.
 #[derive(Clone, Copy)]
 pub struct Header<'a> {
-    pub packet: &'a [u8],
+    pub fixed: Fixed<'a>,
     pub start: usize,
     pub end: usize,
-    pub ghost unrefused: { header_refusal packet.now ≡ none },
-    pub ghost starts: { start ≡ after_header packet.now },
-    pub ghost ends: { end ≡ payload_end packet.now },
+    pub ghost unrefused: { header_refusal fixed.packet.now ≡ none },
+    pub ghost starts: { start ≡ after_header fixed.packet.now },
+    pub ghost ends: { end ≡ payload_end fixed.packet.now },
 }
 
 // Where the payload starts: after the CSRC list and, if X is set, the extension.
@@ -61,8 +104,7 @@ fn end_of(s: &[u8], start: usize) -> Result<usize, Refusal>
 }
 
 impl<'a> Header<'a> {
-    ghost use Rattle.std.specs.Prelude.{take, drop};
-    ghost use Rattle.model.specs.Packet.{marker, payload_type, sequence, timestamp, ssrc, payload};
+    ghost use Rattle.model.specs.Packet.{payload};
     ghost use Rattle.header.specs.Reads.{ReadsUnless};
 
     // Reads a packet's header as far as its payload's place: refusals 1 to 4.
@@ -74,10 +116,11 @@ impl<'a> Header<'a> {
         if len < 12 {
             return Err(Refusal::TooShort);
         }
+        let fixed = Fixed { packet };
         // Version 2 with no padding, extension or CSRC list, as nearly all senders have it.
         if packet[0] == 0x80 {
             return Ok(Header {
-                packet,
+                fixed,
                 start: 12,
                 end: len,
             });
@@ -87,51 +130,14 @@ impl<'a> Header<'a> {
         }
         let start = start_of(packet)?;
         let end = end_of(packet, start)?;
-        Ok(Header { packet, start, end })
-    }
-
-    // M.
-    #[tactic(auto, using(crate::proofs::Laws::whole))]
-    pub fn marker(self) -> bool
-        ensures { result ≡ marker self.entry.packet.now }
-    {
-        self.packet[1] / 128 == 1
-    }
-
-    // PT.
-    #[tactic(auto, using(crate::proofs::Laws::whole))]
-    pub fn payload_type(self) -> u8
-        ensures { result ≡ payload_type self.entry.packet.now }
-    {
-        self.packet[1] % 128
-    }
-
-    #[tactic(auto, using(crate::proofs::Laws::whole))]
-    pub fn sequence(self) -> u16
-        ensures { result ≡ sequence self.entry.packet.now }
-    {
-        number_16(self.packet, 2)
-    }
-
-    #[tactic(auto, using(crate::proofs::Laws::whole))]
-    pub fn timestamp(self) -> u32
-        ensures { result ≡ timestamp self.entry.packet.now }
-    {
-        number_32(self.packet, 4)
-    }
-
-    #[tactic(auto, using(crate::proofs::Laws::whole))]
-    pub fn ssrc(self) -> u32
-        ensures { result ≡ ssrc self.entry.packet.now }
-    {
-        number_32(self.packet, 8)
+        Ok(Header { fixed, start, end })
     }
 
     // The payload, without the padding.
     #[tactic(auto, using(crate::proofs::Laws::lying))]
     pub fn payload(self) -> &'a [u8]
-        ensures { result.now ≡ payload self.entry.packet.now }
+        ensures { result.now ≡ payload self.entry.fixed.packet.now }
     {
-        &self.packet[self.start..self.end]
+        &self.fixed.packet[self.start..self.end]
     }
 }

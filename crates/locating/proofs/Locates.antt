@@ -69,19 +69,19 @@ module _ (h : Head) (bs : List ℕ) where
   unfolding locating refusal_of_both
   not_for_it room k r = rw (r.number, r.is_one, r.is_one)
 
-  module _ (unrefused : refusal_for_both h bs ≡ none) (start end : ℕ) (from : start ≡ after_header bs) (to_end : end ≡ payload_end bs) where
-    read : header_refusal bs ≡ none
-    unfolding refusal_for_both
-    read = (both_none (header_refusal bs) _ unrefused).0
+  pub read : refusal_for_both h bs ≡ none → header_refusal bs ≡ none
+  unfolding refusal_for_both
+  read unrefused = (both_none (header_refusal bs) _ unrefused).0
 
+  module _ (unrefused : refusal_for_both h bs ≡ none) (start end : ℕ) (from : start ≡ after_header bs) (to_end : end ≡ payload_end bs) where
     its_part : part_of bs start end ≡ payload bs
-    its_part = payload_there bs read start end from to_end
+    its_part = payload_there bs (read unrefused) start end from to_end
 
     to : end ≡ payload_ends bs
     to =
         let long : length (payload bs) ≡ end - start =
-        ap length (sym its_part) ∙ length_part bs start end (ends_within bs read start end from to_end) in
-        omega (arith, long, from, starts_before_end bs read start end from to_end)
+        ap length (sym its_part) ∙ length_part bs start end (ends_within bs (read unrefused) start end from to_end) in
+        omega (arith, long, from, starts_before_end bs (read unrefused) start end from to_end)
 
     module _ (time : ℕ) (is_time : time ≡ timestamp bs) (m : Bool) (is_m : m ≡ marker bs) (room kind : ℕ) (is_kind : kind ≡ payload_type bs) where
       -- a plain packet's is one

@@ -46,11 +46,11 @@ fn header_for_both<'a>(head: Head, packet: &'a [u8]) -> Result<Header<'a>, Refus
         head.payload_type,
         head.both_types,
         head.redundant_type,
-        header.payload_type(),
+        header.fixed.payload_type(),
     ) {
         return Err(Refusal::OtherPayloadType);
     }
-    if header.ssrc() != head.ssrc {
+    if header.fixed.ssrc() != head.ssrc {
         return Err(Refusal::OtherSsrc);
     }
     Ok(header)
@@ -62,9 +62,9 @@ pub fn locate(head: Head, packet: &[u8], room: usize) -> Result<Located, Refusal
     ensures { told nowhere result ≡ locating head packet.now room }
 {
     let header = header_for_both(head, packet)?;
-    let timestamp = header.timestamp();
-    let marked = header.marker();
-    if header.payload_type() == head.payload_type {
+    let timestamp = header.fixed.timestamp();
+    let marked = header.fixed.marker();
+    if header.fixed.payload_type() == head.payload_type {
         if room < 1 {
             return Err(Refusal::ListTooSmall);
         }
@@ -78,7 +78,7 @@ pub fn locate(head: Head, packet: &[u8], room: usize) -> Result<Located, Refusal
             }),
         });
     }
-    let scanned = scan(header, head.payload_type)?;
+    let scanned = scan(packet, header.start, header.end, head.payload_type)?;
     if room < scanned.of_type {
         return Err(Refusal::ListTooSmall);
     }

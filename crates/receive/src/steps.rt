@@ -17,10 +17,10 @@ pub(crate) fn header_for<'a>(head: Head, packet: &'a [u8]) -> Result<Header<'a>,
     ensures { ReadsUnless (refusal_for head packet.now) packet.entry result }
 {
     let header = Header::read(packet)?;
-    if header.payload_type() != head.payload_type {
+    if header.fixed.payload_type() != head.payload_type {
         return Err(Refusal::OtherPayloadType);
     }
-    if header.ssrc() != head.ssrc {
+    if header.fixed.ssrc() != head.ssrc {
         return Err(Refusal::OtherSsrc);
     }
     Ok(header)
@@ -33,5 +33,10 @@ pub(crate) fn hear_packet(head: Head, packet: &[u8]) -> Result<Heard, Refusal>
     ensures { told nothing_heard result ≡ hearing_in head packet.now }
 {
     let header = header_for(head, packet)?;
-    hear(head, header.timestamp(), header.marker(), header.payload())
+    hear(
+        head,
+        header.fixed.timestamp(),
+        header.fixed.marker(),
+        header.payload(),
+    )
 }

@@ -2,6 +2,7 @@
 #![tactic(auto)]
 
 ghost use Rattle.std.specs.Prelude.{◌≡◌};
+ghost use Rattle.model.specs.Walk.{part_of};
 ghost use Rattle.walker.specs.Hands.{Hands, left};
 
 use blocks::step::{Block, block_at, walk_start};
@@ -19,6 +20,14 @@ pub struct Walker<'a> {
 pub struct Part<'a> {
     pub block: Block,
     pub bytes: &'a [u8],
+}
+
+// The part from `start` up to `end` of a slice, or as much of it as there is.
+pub fn part_of(s: &[u8], start: usize, end: usize) -> &[u8]
+    ensures { result.now ≡ part_of s.now start end }
+{
+    let end = end.min(s.len());
+    if end < start { &[] } else { &s[start..end] }
 }
 
 impl<'a> Walker<'a> {
@@ -46,7 +55,7 @@ impl<'a> Iterator for Walker<'a> {
         self.cursor = block.after;
         Some(Part {
             block,
-            bytes: &self.packet[block.start..block.end],
+            bytes: part_of(self.packet, block.start, block.end),
         })
     }
 }
