@@ -54,6 +54,7 @@ pub fn scan(s: &[u8], start: usize, end: usize, payload_type: u8) -> Result<Scan
     requires end_in_bounds { end ≤ length s.now }
     ensures { told nothing_scanned result ≡ scan_of s.now start end payload_type }
 {
+    // No `for`: where the next header stands is said by this one.
     let mut so_far = none_yet(start);
     while so_far.at < end {
         let at = so_far.at;

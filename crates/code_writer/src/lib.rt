@@ -50,7 +50,7 @@ pub fn write_codes(codes: Codes, out: &mut [u8]) -> Result<usize, Refusal>
     if is_empty(codes) {
         return Err(Refusal::NoCodes);
     }
-    // a text has at most 609 bytes; the comma before the first range is no part of it
+    // No heap: a text has at most 609 bytes; the comma before the first range is no part of it
     let mut text = [0u8; 610];
     let end = put_ranges(codes, &mut text);
     let text = &text[1..end];

@@ -97,6 +97,9 @@ pub struct Event {
     pub ended: bool,
 }
 
+// What C is told from here on, but for `Lookup` and `Cursor`: a `Result` or an `Option` cannot cross to it, so the refusal's number or a
+// flag stands beside the values.
+
 // An opened table; refusal 0, or the refusal's number with the empty table of zeros.
 #[repr(C)]
 #[derive(Clone, Copy)]

@@ -18,6 +18,7 @@ pub struct Sought {
 fn find(keys: &[u64], wanted: u64) -> Lookup
     ensures { Finds keys.now wanted result }
 {
+    // The library's search does not tell how many keys it looked at.
     let mut low = 0;
     let mut high = keys.len();
     let mut probes = 0;

@@ -36,7 +36,8 @@ fn insert<T: Copy>(column: &mut [T], n: usize, i: usize, x: T)
 }
 
 // Takes a report, given as a segment's two numbers, into a table that passes the tests: a known segment keeps it too, a new
-// one is put in at its place, or refused with 11 if there is no room.
+// one is put in at its place, or refused with 11 if there is no room. It is no method of `Tested`: after any two numbers a table need not
+// pass. It answers `Received`, since 11 has probes too.
 #[tactic(auto, using(crate::proofs::Laws::taking))]
 pub fn take(
     head: Head,
