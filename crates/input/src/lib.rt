@@ -47,6 +47,7 @@ pub fn refill<R: Read>(input: &mut R, b: &mut [u8], from: usize) -> io::Result<u
 pub fn read_full<R: Read>(input: &mut R, b: &mut [u8]) -> Result<usize, Broken<usize>>
     ensures { MatchResult result (λ bytes. bytes ≤ length b.new) (λ broken. broken.before ≤ length b.new) }
 {
+    // No `for`: a step is what a read gave.
     let mut before = 0;
     while before < b.len() {
         match refill(input, b, before) {
