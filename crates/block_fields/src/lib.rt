@@ -19,5 +19,5 @@ pub fn length_at(s: &[u8], at: usize) -> usize
     requires { at + 4 ≤ length s.now }
     ensures { result ≡ length_at s.now at }
 {
-    usize::from(number_16(s, at + 2) % 1024)
+    usize::from(number_16(s, at + 2)) % 1024
 }

@@ -31,6 +31,7 @@ use Rattle.model.specs.Redundant.{of_type}
 use Rattle.theorems.proofs.Blocks.{older_none, older_more, last_none, last_more, primary_more, Unrefused, unrefused_if}
 use Rattle.theorems.proofs.Walks.{drop_part, length_part, byte_part}
 use Rattle.block_fields.specs.Fields.{length_at}
+use Rattle.header.proofs.Laws.{starts_before_end, ends_within}
 use Rattle.block_headers.specs.declared.SoFar.{SoFar}
 use Rattle.block_headers.specs.declared.Scanned.{Scanned}
 use Rattle.block_headers.specs.Headers.{none_yet, one_more, Room, scanned_as, nothing_scanned, scan_in, scan_of}
@@ -222,6 +223,8 @@ module _ (bs : List ℕ) (start end type : ℕ) (t : SoFar) (w : Reading bs star
 
 pub ruleset scanning = (
   rules,
+  starts_before_end,
+  ends_within,
   starts,
   run_out,
   too_long,

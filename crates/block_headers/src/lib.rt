@@ -1,11 +1,12 @@
 // The block headers of a redundant packet's payload (RFC 2198), read once.
 #![tactic(auto)]
 
-ghost use Rattle.std.specs.Prelude.{◌≤◌, ◌≡◌, length};
+ghost use Rattle.std.specs.Prelude.{◌≡◌};
 ghost use Rattle.refusals.specs.Refusals.{told};
 ghost use Rattle.block_headers.specs.Headers.{none_yet, Room, one_more, nothing_scanned, scan_of};
 
 use block_fields::length_at;
+use header::Header;
 use refusals::Refusal;
 
 // What the headers of a payload say: where the blocks' data start, and how many blocks are of the type asked for.
@@ -35,31 +36,34 @@ fn none_yet(start: usize) -> SoFar
 
 // What has been read after one header of four bytes more. The sum stops at `end`, so that no lengths can make it wrap.
 #[tactic(auto, using(crate::proofs::Scanning::scanning))]
-fn one_more(s: &[u8], end: usize, payload_type: u8, so_far: SoFar) -> SoFar
-    requires { Room s.now end so_far }
-    ensures { result ≡ one_more s.now end payload_type so_far }
+fn one_more(header: Header, payload_type: u8, so_far: SoFar) -> SoFar
+    requires { Room header.packet.now header.end so_far }
+    ensures { result ≡ one_more header.entry.packet.now header.entry.end payload_type so_far }
 {
+    let s = header.packet;
     let at = so_far.at;
     SoFar {
         at: at + 4,
-        total: so_far.total.saturating_add(length_at(s, at)).min(end),
+        total: so_far
+            .total
+            .saturating_add(length_at(s, at))
+            .min(header.end),
         of_type: so_far.of_type + usize::from(s[at] % 128 == payload_type),
     }
 }
 
-// Reads the block headers of the payload from `start` up to `end` of a packet, once: refusals 18 and 19.
+// Reads the block headers of a packet's payload, once: refusals 18 and 19.
 #[tactic(auto, using(crate::proofs::Scanning::scanning))]
-pub fn scan(s: &[u8], start: usize, end: usize, payload_type: u8) -> Result<Scanned, Refusal>
-    requires start_le_end { start ≤ end }
-    requires end_in_bounds { end ≤ length s.now }
-    ensures { told nothing_scanned result ≡ scan_of s.now start end payload_type }
+pub fn scan(header: Header, payload_type: u8) -> Result<Scanned, Refusal>
+    ensures { told nothing_scanned result ≡ scan_of header.entry.packet.now header.entry.start header.entry.end payload_type }
 {
-    let mut so_far = none_yet(start);
-    while so_far.at < end {
+    let mut so_far = none_yet(header.start);
+    while so_far.at < header.end {
         let at = so_far.at;
-        let first = s[at];
+        let first = header.packet[at];
+        let left = header.end - at;
         if first < 128 {
-            if end - at - 1 < so_far.total {
+            if left - 1 < so_far.total {
                 return Err(Refusal::BlocksTooLong);
             }
             return Ok(Scanned {
@@ -67,10 +71,10 @@ pub fn scan(s: &[u8], start: usize, end: usize, payload_type: u8) -> Result<Scan
                 of_type: so_far.of_type + usize::from(first == payload_type),
             });
         }
-        if end - at < 4 {
+        if left < 4 {
             return Err(Refusal::HeadersRunOut);
         }
-        so_far = one_more(s, end, payload_type, so_far);
+        so_far = one_more(header, payload_type, so_far);
     }
     Err(Refusal::HeadersRunOut)
 }

@@ -15,7 +15,14 @@ fn entry_of(got: Received) -> u32
     requires probes_bound { got.probes ≤ 8 }
     ensures { result ≡ entry_of got }
 {
-    got.refusal as u32 + (256 * u32::from(got.is_new) + 65536 * (got.probes as u32))
+    let low = got.refusal as u32;
+    let looked = 65536 * (got.probes as u32);
+    // A number made of the flag would be loaded in four bytes, right after one was stored.
+    if got.is_new {
+        low + (256 + looked)
+    } else {
+        low + looked
+    }
 }
 
 // Hears a block of a packet of this timestamp and marker, and enters its answer at place i. M counts on the primary alone.

@@ -10,16 +10,16 @@ use lib.ListN.{length}
 use lib.Seq.{get_or-drop}
 use Rattle.model.specs.declared.Cursor.{Cursor}
 use Rattle.model.specs.declared.BlockStep.{BlockStep}
-use Rattle.model.specs.Packet.{byte, after_header, payload}
+use Rattle.model.specs.Packet.{byte, after_header, header_refusal, payload}
 use Rattle.model.specs.Blocks.{another, block_header, last_header, blocks_refusal}
 use Rattle.model.specs.Walk.{cursor, payload_ends, walk_refusal, walk_start, no_block, from_header, primary_step, block_step, header_step, part_of}
 use Rattle.theorems.proofs.Walks.{no_header, last_step, older_step_lem, length_said, length_part}
 use Rattle.std.specs.Prelude.{Some}
-use Rattle.refusals.specs.Refusals.{answered, refused_by}
+use Rattle.refusals.specs.Refusals.{none, answered, refused_by}
 use Rattle.model.specs.Answers.{no_cursor}
-use Rattle.header.specs.declared.Place.{Place}
-use Rattle.header.specs.Stage.{no_place, header_of}
-use Rattle.header.proofs.Laws.{Found, refused_says, found_says, starts_before_end, ends_within, payload_there}
+use Rattle.header.specs.Reads.{Refuses}
+use Rattle.header.specs.Stage.{payload_end}
+use Rattle.header.proofs.Laws.{starts_before_end, ends_within, payload_there}
 use Rattle.block_headers.specs.declared.Scanned.{Scanned}
 use Rattle.block_fields.specs.Fields.{offset_at, length_at}
 use Rattle.block_headers.specs.Headers.{nothing_scanned, scan_in, scan_of}
@@ -122,44 +122,39 @@ module _ (bs : List ℕ) (header body end : ℕ) (s : BlockStep) (is : s ≡ blo
 -- THE START
 
 module _ (bs : List ℕ) where
-  pub no_start : (k : ℕ) → refused_by k no_place ≡ header_of bs → record { cursor = no_cursor; refusal = k } ≡ walk_start bs
+  pub no_start : (k : ℕ) → Refuses k (header_refusal bs) → record { cursor = no_cursor; refusal = k } ≡ walk_start bs
   unfolding walk_start walk_refusal
-  no_start k h =
-      let s = refused_says bs k h in
-      rw (s.1, s.0, s.0)
+  no_start k r = rw (r.number, r.is_one, r.is_one)
 
-  module _ (p : Place) (h : answered p ≡ header_of bs) where
-    found : Found bs p
-    found = found_says bs p h
+  module _ (unrefused : header_refusal bs ≡ none) (start end : ℕ) (from : start ≡ after_header bs) (to : end ≡ payload_end bs) where
+    part : part_of bs start end ≡ payload bs
+    part = payload_there bs unrefused start end from to
 
-    pub part : part_of bs p.start p.end ≡ payload bs
-    part = payload_there bs p h
-
-    ends_there : p.end ≡ payload_ends bs
+    ends_there : end ≡ payload_ends bs
     ends_there =
-        let long : length (payload bs) ≡ p.end - p.start = ap length (sym part) ∙ length_part bs p.start p.end (ends_within bs p h) in
-        omega (arith, long, found.from, starts_before_end bs p h)
+        let within = ends_within bs unrefused start end from to in
+        let long : length (payload bs) ≡ end - start = ap length (sym part) ∙ length_part bs start end within in
+        omega (arith, long, from, starts_before_end bs unrefused start end from to)
 
-    scanned : scan_of bs p.start p.end 0 ≡ scan_in (payload bs) p.start 0
-    scanned = ap (λ (q : List ℕ). scan_in q p.start 0) part
+    scanned : scan_of bs start end 0 ≡ scan_in (payload bs) start 0
+    scanned = ap (λ (q : List ℕ). scan_in q start 0) part
 
-    pub not_carried : (k : ℕ) → refused_by k nothing_scanned ≡ scan_of bs p.start p.end 0
+    pub not_carried : (k : ℕ) → refused_by k nothing_scanned ≡ scan_of bs start end 0
         → record { cursor = no_cursor; refusal = k } ≡ walk_start bs
     unfolding walk_start walk_refusal
     not_carried k e =
-        let s = says_refusal (payload bs) p.start 0 k (e ∙ scanned) in
-        rw (s.0, found.unrefused, s.1)
+        let s = says_refusal (payload bs) start 0 k (e ∙ scanned) in
+        rw (s.0, unrefused, s.1)
 
-    pub started : (x : Scanned) → answered x ≡ scan_of bs p.start p.end 0
-        → record { cursor = record { header = p.start; body = x.body; end = p.end }; refusal = 0 } ≡ walk_start bs
+    pub started : (x : Scanned) → answered x ≡ scan_of bs start end 0
+        → record { cursor = record { header = start; body = x.body; end = end }; refusal = 0 } ≡ walk_start bs
     unfolding walk_start walk_refusal
     started x e =
-        let none : blocks_refusal (payload bs) ≡ 0 = says_none (payload bs) p.start 0 x (e ∙ scanned) in
-        let body = says_body (payload bs) p.start 0 x (e ∙ scanned) in
-        let from : p.start ≡ after_header bs = found.from in
-        (λ i. record { cursor = record { header = p.start; body = body i; end = ends_there i }; refusal = 0 })
+        let no_other : blocks_refusal (payload bs) ≡ 0 = says_none (payload bs) start 0 x (e ∙ scanned) in
+        let body = says_body (payload bs) start 0 x (e ∙ scanned) in
+        (λ i. record { cursor = record { header = start; body = body i; end = ends_there i }; refusal = 0 })
         ∙ (λ i. record { cursor = record { header = from i; body = from i + last_header (payload bs) + 1; end = payload_ends bs }; refusal = 0 })
-        ∙ rw (found.unrefused, none)
+        ∙ rw (unrefused, no_other)
 
 pub ruleset stepping = (
   rules,

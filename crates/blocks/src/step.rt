@@ -7,7 +7,7 @@ ghost use Rattle.blocks.specs.Step.{step_of};
 
 use block_fields::{length_at, offset_at};
 use block_headers::scan;
-use header::header_of;
+use header::Header;
 use model::{BlockStep, Cursor, HeaderStep};
 use refusals::Refusal;
 
@@ -127,11 +127,11 @@ pub fn header_step(s: &[u8], header: usize, body: usize, end: usize) -> HeaderSt
 pub fn walk_start(s: &[u8]) -> Result<Cursor, Refusal>
     ensures { walk_start_of (told no_cursor result) ≡ walk_start s.now }
 {
-    let place = header_of(s)?;
-    let scanned = scan(s, place.start, place.end, 0)?;
+    let header = Header::read(s)?;
+    let scanned = scan(header, 0)?;
     Ok(Cursor {
-        header: place.start,
+        header: header.start,
         body: scanned.body,
-        end: place.end,
+        end: header.end,
     })
 }

@@ -7,7 +7,7 @@ use native.Mathlib.Omega.{arith}
 use borrow.Author.Rules.{rules}
 use borrow.Author.Tests.{not-true, not-false}
 use lib.Dec.{eqb}
-use lib.ListN.{length, take, drop, length-drop}
+use lib.ListN.{length, take, drop}
 use Rattle.model.specs.declared.Head.{Head}
 use Rattle.model.specs.declared.Table.{Table}
 use Rattle.model.specs.declared.Received.{Received}
@@ -15,9 +15,8 @@ use Rattle.model.specs.declared.Captured.{Captured}
 use Rattle.model.specs.Packet.{bit}
 use Rattle.model.specs.Table.{table_of, holding, valid}
 use Rattle.model.specs.Receive.{receive, refuses}
-use Rattle.model.specs.Frames.{starts_whole, frame_size}
+use Rattle.model.specs.Frames.{frame_size}
 use Rattle.model.specs.Capture.{Capturing, refuses_packed, receiving_all, receiving_none, receive_capture, together}
-use Rattle.theorems.proofs.Frames.{at_least_2, cut_if}
 use Rattle.theorems.proofs.Captures.{all_if_valid, none_if_invalid, nothing_more, all_none, of_frame, all_first, at_most_1, packed_once}
 use Rattle.receive.specs.declared.Tested.{Tested}
 use Rattle.receive.specs.Receives.{in_table, SameColumns, Receives}

@@ -26,5 +26,8 @@ pub fn divide(n: u32, d: u32, bits: u32) -> Divided
             quotient += 1;
         }
     }
-    Divided { quotient, remainder }
+    Divided {
+        quotient,
+        remainder,
+    }
 }

@@ -1,11 +1,11 @@
-// The events of a receiving table whose columns are lent: the event at a number, and how many the list call writes.
+// The events of a receiving table whose columns are lent: the event at a number, and the list.
 #![tactic(auto)]
 
 ghost use Rattle.std.specs.Prelude.{◌≡◌, ◌<◌, length};
 ghost use Rattle.refusals.specs.Refusals.{told};
 ghost use Rattle.model.specs.Answers.{no_event, listed_of};
 ghost use Rattle.model.specs.Table.{table_of};
-ghost use Rattle.model.specs.List.{event_at, list_answer};
+ghost use Rattle.model.specs.List.{event_at, list, list_answer};
 ghost use Rattle.grouping.specs.Events.{events_from};
 ghost use Rattle.events.specs.Numbers.{Finds, HeldBy};
 
@@ -24,21 +24,22 @@ fn held<'a>(head: Head, keys: &'a [u64; 128], heard: &'a [u32; 128]) -> Result<H
 }
 
 // The place where event k begins, counted from 0 among those that begin at the place `from` or later. Whoever goes on after it finds
-// the later ones.
-pub fn event_place(held: Held, from: usize, k: usize) -> usize
+// the later ones. It tests for no last place, since that event is still to come.
+fn event_place(held: Held, from: usize, k: usize) -> usize
     requires { k < length (events_from held from) }
     ensures { Finds held.entry.keys.now held.entry.heard.now (length held.entry.keys.now) from k result }
 {
     let mut left = k;
-    for place in from..held.keys.len() {
+    let mut place = from;
+    loop {
         if held.begins(place) {
             if left == 0 {
                 return place;
             }
             left -= 1;
         }
+        place += 1;
     }
-    unreachable!()
 }
 
 // Tells the event at number k, counted from 1 by start, then code, or refuses with 16 or 13.
@@ -58,8 +59,8 @@ pub fn event_at<'a>(
     Ok(held.event_from(event_place(held, 0, number - 1)))
 }
 
-// How many events the list call writes where `room` records are lent, or 16 or 15.
-pub fn answer_for<'a>(
+// How many events there are, or 16, or 15 if there is room for fewer.
+fn count_for<'a>(
     head: Head,
     keys: &'a [u64; 128],
     heard: &'a [u32; 128],
@@ -67,9 +68,30 @@ pub fn answer_for<'a>(
 ) -> Result<usize, Refusal>
     ensures { listed_of (told 0 result) ≡ list_answer (table_of head keys.now heard.now) room }
 {
-    let n = held(head, keys, heard)?.count();
-    if room < n {
+    let count = held(head, keys, heard)?.count();
+    if room < count {
         return Err(Refusal::ListTooSmall);
+    }
+    Ok(count)
+}
+
+// Writes the events into the first lent records and tells how many they are, or refuses with 16 or 15; the other records stay.
+pub fn list<'a>(
+    head: Head,
+    keys: &'a [u64; 128],
+    heard: &'a [u32; 128],
+    out: &mut [Event],
+) -> Result<usize, Refusal>
+    ensures value { listed_of (told 0 result) ≡ (list (table_of head keys.now heard.now) out.old).answer }
+    ensures out_after { out.new ≡ (list (table_of head keys.now heard.now) out.old).records }
+{
+    let n = count_for(head, keys, heard, out.len())?;
+    let held = Held::of(keys, heard, head.count);
+    let mut from = 0;
+    for k in 0..n {
+        let place = event_place(held, from, 0);
+        out[k] = held.event_from(place);
+        from = place + 1;
     }
     Ok(n)
 }

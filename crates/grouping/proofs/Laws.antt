@@ -1,5 +1,5 @@
 -- Each way through the definitions of Places, as a law over two columns and their places.
-use Prim.Native.Nat.{ℕ, zero, suc, ◌+◌, ◌-◌, ◌*◌, ◌≤◌, ◌<◌, ◌%◌, min, max}
+use Prim.Native.Nat.{ℕ, suc, ◌+◌, ◌-◌, ◌*◌, ◌≤◌, ◌<◌, ◌%◌, min, max}
 use mathlib.Core.Path.{◌≡◌, refl, sym, ◌∙◌, ap, ap₂}
 use mathlib.Core.Bool.{Bool, true, false, not, cond, ◌&&◌}
 use mathlib.Core.List.{List, [], ◌∷◌}
@@ -9,26 +9,15 @@ use mir.Val.{bool_byte}
 use borrow.Author.Rules.{rules}
 use borrow.Author.Tests.{eq-eqb, ne_eqb, not-true, not-false}
 use lib.Dec.{eqb}
-use lib.ListN.{length, get_or, take}
-use Rattle.std.proofs.lemmas.List.{get_or-take}
+use lib.ListN.{length, get_or}
 use Rattle.model.specs.declared.Segment.{Segment}
 use Rattle.model.specs.declared.Head.{Head}
 use Rattle.model.specs.declared.Event.{Event}
 use Rattle.model.specs.Table.{segment_at, segments_from, table_of, valid}
-use Rattle.model.specs.Events.{units, loudest, quietest, last_ended, event_of, continues, continues_nearest, continuing, events_from, events_of}
+use Rattle.model.specs.Events.{units, loudest, quietest, last_ended, event_of, continues, continues_nearest, continuing, events_from}
 use Rattle.theorems.proofs.Tables.{Passed, tests_passed, valid_then, valid_from}
 use Rattle.joining.specs.Joining.{lengthened}
 use Rattle.grouping.specs.Places.{InRanges, earlier, begins, later, event_from, events_after, events_in}
-
--- THE FIRST PLACES OF TWO COLUMNS
-
-same_segments : (keys heard : List ℕ) (n i m : ℕ) → i + m ≤ n → segments_from (take n keys) (take n heard) i m ≡ segments_from keys heard i m
-unfolding segments_from
-same_segments keys heard n i zero h = refl
-same_segments keys heard n i (suc m) h = rw (get_or-take n keys i 0 (omega arith), get_or-take n heard i 0 (omega arith)) (ap (λ (l : List Segment). segment_at keys heard i ∷ l) (same_segments keys heard n (suc i) m (omega arith)))
-
-pub same_events : (keys heard : List ℕ) (n m : ℕ) → m ≡ n → events_in (take n keys) (take n heard) m ≡ events_in keys heard n
-same_events keys heard n m e = rw e (ap events_of (same_segments keys heard n 0 n (omega arith)))
 
 -- AN EVENT AND SEGMENTS THAT CONTINUE IT
 
@@ -112,9 +101,6 @@ module _ (keys heard : List ℕ) where
           (valid_from head.codes keys heard head.count 0 p.each i (omega arith) (omega arith)) in
           omega (arith, s.offset)
 
-  pub fewer : (n i : ℕ) → InRanges keys heard n → i < n → InRanges keys heard (i + 1)
-  fewer n i r h = record { few = omega (arith, r.few); each = λ j l. r.each j (omega arith) }
-
   -- the segments from a place on
   abbrev rest : ℕ → ℕ → List Segment
   rest n i = segments_from keys heard i (n - i)
@@ -155,9 +141,6 @@ module _ (keys heard : List ℕ) where
         back =
             let z : j ≡ suc (j - 1) = omega arith in
             ap (λ (n : ℕ). not (continues_nearest (earlier keys heard n) (segment_at keys heard i))) (sym z) ∙ w.same
-
-        pub look_within : InRanges keys heard (i + 1) → InRanges keys heard (j - 1 + 1)
-        look_within r = fewer (i + 1) (j - 1) r (omega (arith, w.within))
 
         pub look_passes : (get_or keys (j - 1) 0 % 256 ≡ get_or keys i 0 % 256 → ⊥) → Looking i (j - 1)
         unfolding continues_nearest
@@ -286,7 +269,6 @@ module _ (keys heard : List ℕ) where
 
 pub ruleset grouping = (
   rules,
-  fewer,
   look_marked,
   look_starts,
   look_ends,

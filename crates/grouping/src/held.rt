@@ -16,16 +16,18 @@ pub struct Held<'a> {
 }
 
 impl<'a> Held<'a> {
-    ghost use Rattle.std.specs.Prelude.{◌<◌};
+    ghost use Rattle.std.specs.Prelude.{◌<◌, take};
     ghost use Rattle.model.specs.Table.{segment_at};
     ghost use Rattle.grouping.specs.Events.{events_of};
     ghost use Rattle.grouping.specs.Places.{begins, event_from, events_in};
 
     // Those of a table: the first n places of its columns.
-    #[tactic(auto, using(crate::proofs::Laws::same_events))]
+    #[tactic(auto, using(crate::proofs::Firsts::same_events))]
     pub fn of(keys: &'a [u64; 128], heard: &'a [u32; 128], n: usize) -> Self
         requires { InRanges keys.now heard.now n }
         ensures places { length result.keys.now ≡ n }
+        ensures keys_value { result.keys.now ≡ take n keys.now }
+        ensures heard_value { result.heard.now ≡ take n heard.now }
         ensures events { events_of result ≡ events_in keys.now heard.now n }
     {
         Held {

@@ -12,8 +12,8 @@ use Rattle.model.specs.Packet.{byte, number16, version, padded, after_header, by
 use Rattle.refusals.specs.Refusals.{answered, refused_by, none, ◌if◌else◌, header_past_end, bad_padding}
 use Rattle.refusals.proofs.Told.{given, refused}
 use Rattle.refusals.proofs.Tests.{passed, only}
-use Rattle.header.specs.declared.Place.{Place}
-use Rattle.header.specs.Stage.{no_place, start_of, payload_end, end_of, header_of}
+use Rattle.header.specs.Reads.{Refuses}
+use Rattle.header.specs.Stage.{start_of, payload_end, end_of}
 
 -- WHERE THE PAYLOAD STARTS
 
@@ -117,108 +117,93 @@ module _ (bs : List ℕ) where
 -- THE FIRST STAGE
 
 module _ (bs : List ℕ) where
-  pub too_short : length bs < 12 → refused_by 1 no_place ≡ header_of bs
-  unfolding header_of header_refusal
-  too_short h = rw (lt-ltb (length bs) 12 h)
+  pub too_short : length bs < 12 → Refuses 1 (header_refusal bs)
+  unfolding header_refusal
+  too_short h = rw (lt-ltb (length bs) 12 h) (record { number = refl; is_one = refl })
 
   module _ (long : 12 ≤ length bs) where
     -- the first byte alone says that nothing but the payload comes after the header
-    pub bare : byte bs 0 ≡ 0x80 → answered (record { start = 12; end = length bs }) ≡ header_of bs
-    unfolding header_of header_refusal after_header payload_end
-    bare z = let all : length bs - 0 ≡ length bs = omega arith in rw (z, le-ltb (length bs) 12 long, all)
+    module _ (z : byte bs 0 ≡ 0x80) where
+      pub bare : header_refusal bs ≡ none
+      unfolding header_refusal after_header
+      bare = rw (z, le-ltb (length bs) 12 long)
 
-    pub wrong_version : (byte bs 0 / 64 ≡ 2 → ⊥) → refused_by 2 no_place ≡ header_of bs
-    unfolding header_of header_refusal
-    wrong_version v = rw (le-ltb (length bs) 12 long, ne_eqb (byte bs 0 / 64) 2 v)
+      pub bare_start : 12 ≡ after_header bs
+      unfolding after_header
+      bare_start = rw z
+
+      pub bare_end : length bs ≡ payload_end bs
+      unfolding payload_end
+      bare_end = let all : length bs - 0 ≡ length bs = omega arith in rw (z, all)
+
+    pub wrong_version : (byte bs 0 / 64 ≡ 2 → ⊥) → Refuses 2 (header_refusal bs)
+    unfolding header_refusal
+    wrong_version v = rw (le-ltb (length bs) 12 long, ne_eqb (byte bs 0 / 64) 2 v) (record { number = refl; is_one = refl })
 
     module _ (v : byte bs 0 / 64 ≡ 2) where
-      pub header_past : (k : ℕ) → refused_by k 0 ≡ start_of bs → refused_by k no_place ≡ header_of bs
-      unfolding header_of header_refusal
+      pub header_past : (k : ℕ) → refused_by k 0 ≡ start_of bs → Refuses k (header_refusal bs)
+      unfolding header_refusal
       header_past k e =
           let m = missed bs k e in
-          rw (m.0, le-ltb (length bs) 12 long, eq-eqb (byte bs 0 / 64) 2 v, m.1)
+          rw (m.0, le-ltb (length bs) 12 long, eq-eqb (byte bs 0 / 64) 2 v, m.1) (record { number = refl; is_one = refl })
 
       module _ (start : ℕ) (e : answered start ≡ start_of bs) where
         within : ltb (length bs) (after_header bs) ≡ false
         within = (starts bs start e).0
 
-        pub bad_pad : (k : ℕ) → refused_by k 0 ≡ end_of bs → refused_by k no_place ≡ header_of bs
-        unfolding header_of header_refusal
+        pub bad_pad : (k : ℕ) → refused_by k 0 ≡ end_of bs → Refuses k (header_refusal bs)
+        unfolding header_refusal
         bad_pad k h =
             let w = wrong bs k h in
-            rw (w.0, le-ltb (length bs) 12 long, eq-eqb (byte bs 0 / 64) 2 v, within, w.1)
+            rw (w.0, le-ltb (length bs) 12 long, eq-eqb (byte bs 0 / 64) 2 v, within, w.1) (record { number = refl; is_one = refl })
 
-        pub header_found : (end : ℕ) → answered end ≡ end_of bs → answered (record { start = start; end = end }) ≡ header_of bs
-        unfolding header_of header_refusal
-        header_found end r =
-            let m = ends bs end r in
-            rw (start_found bs start e, m.1, le-ltb (length bs) 12 long, eq-eqb (byte bs 0 / 64) 2 v, within, m.0)
+        module _ (end : ℕ) (r : answered end ≡ end_of bs) where
+          pub header_found : header_refusal bs ≡ none
+          unfolding header_refusal
+          header_found = rw (le-ltb (length bs) 12 long, eq-eqb (byte bs 0 / 64) 2 v, within, (ends bs end r).0)
 
--- WHAT THE ANSWER SAYS of the packet, if the header is found
+          pub end_found : end ≡ payload_end bs
+          end_found = (ends bs end r).1
 
-pub record Found (bs : List ℕ) (p : Place) : Type 0 where
-  pub unrefused : header_refusal bs ≡ 0
-  pub from : p.start ≡ after_header bs
-  pub to : p.end ≡ payload_end bs
+-- WHERE THE PAYLOAD LIES, if nothing is refused
 
-module _ (bs : List ℕ) where
-  abbrev there : Place
-  there = record { start = after_header bs; end = payload_end bs }
+module _ (bs : List ℕ) (unrefused : header_refusal bs ≡ none) where
+  pub header_whole : 12 ≤ length bs
+  unfolding header_refusal
+  header_whole = omega (arith, ltb-false (length bs) 12 (passed (ltb (length bs) 12) 0 _ unrefused).0)
 
-  pub refused_says : (k : ℕ) → refused_by k no_place ≡ header_of bs → (eqb (header_refusal bs) 0 ≡ false) × (k ≡ header_refusal bs)
-  unfolding header_of
-  refused_says k e =
-      let s = refused (header_refusal bs) no_place there k e in
-      (s.1, s.0)
+  -- the payload lies within the packet
+  unpadded_end : (wrong_pad bs ≡ false) → after_header bs ≤ length bs → after_header bs ≤ payload_end bs
+  unfolding payload_end
+  unpadded_end w n = go (padded bs) (eqb (pad_count bs) 0) (ltb (bytes_left bs) (pad_count bs)) refl w
+    where
+      go : (x y z : Bool) → ltb (bytes_left bs) (pad_count bs) ≡ z → (x && (y || z)) ≡ false → after_header bs ≤ length bs - cond x (pad_count bs) 0
+      go false y z k w = omega arith
+      go true true z k w = absurd (true≢false w)
+      go true false true k w = absurd (true≢false w)
+      go true false false k w = omega (arith, ltb-false (bytes_left bs) (pad_count bs) k)
 
-  pub found_says : (p : Place) → answered p ≡ header_of bs → Found bs p
-  unfolding header_of
-  found_says p e =
-      let s = given (header_refusal bs) no_place there p e in
-      record { unrefused = s.0; from = ap (λ (x : Place). x.start) s.1; to = ap (λ (x : Place). x.end) s.1 }
+  starts_first : after_header bs ≤ payload_end bs
+  unfolding header_refusal
+  starts_first =
+      let w = passed (ltb (length bs) 12) 0 _ unrefused in
+      let x = passed (not (eqb (version bs) 2)) 1 _ w.1 in
+      let y = passed (ltb (length bs) (after_header bs)) 2 _ x.1 in
+      unpadded_end (passed (wrong_pad bs) 3 _ y.1).0 (ltb-false (length bs) (after_header bs) y.0)
 
--- WHERE THE PAYLOAD LIES, if the header is found
+  module _ (start end : ℕ) (from : start ≡ after_header bs) (to : end ≡ payload_end bs) where
+    pub starts_before_end : start ≤ end
+    starts_before_end = omega (arith, from, to, starts_first)
 
-module _ (bs : List ℕ) where
-  module _ (p : Place) (found : answered p ≡ header_of bs) where
-    place : Found bs p
-    place = found_says bs p found
-
-    pub header_whole : 12 ≤ length bs
-    unfolding header_refusal
-    header_whole = omega (arith, ltb-false (length bs) 12 (passed (ltb (length bs) 12) 0 _ place.unrefused).0)
-
-    -- the payload lies within the packet
-    unpadded_end : (wrong_pad bs ≡ false) → after_header bs ≤ length bs → after_header bs ≤ payload_end bs
+    pub ends_within : end ≤ length bs
     unfolding payload_end
-    unpadded_end w n = go (padded bs) (eqb (pad_count bs) 0) (ltb (bytes_left bs) (pad_count bs)) refl w
-      where
-        go : (x y z : Bool) → ltb (bytes_left bs) (pad_count bs) ≡ z → (x && (y || z)) ≡ false → after_header bs ≤ length bs - cond x (pad_count bs) 0
-        go false y z k w = omega arith
-        go true true z k w = absurd (true≢false w)
-        go true false true k w = absurd (true≢false w)
-        go true false false k w = omega (arith, ltb-false (bytes_left bs) (pad_count bs) k)
+    ends_within = omega (arith, to)
 
-    starts_first : after_header bs ≤ payload_end bs
-    unfolding header_refusal
-    starts_first =
-        let w = passed (ltb (length bs) 12) 0 _ place.unrefused in
-        let x = passed (not (eqb (version bs) 2)) 1 _ w.1 in
-        let y = passed (ltb (length bs) (after_header bs)) 2 _ x.1 in
-        unpadded_end (passed (wrong_pad bs) 3 _ y.1).0 (ltb-false (length bs) (after_header bs) y.0)
-
-    pub starts_before_end : p.start ≤ p.end
-    starts_before_end = omega (arith, place.from, place.to, starts_first)
-
-    pub ends_within : p.end ≤ length bs
-    unfolding payload_end
-    ends_within = omega (arith, place.to)
-
-    pub payload_there : take (p.end - p.start) (drop p.start bs) ≡ payload bs
+    pub payload_there : take (end - start) (drop start bs) ≡ payload bs
     unfolding payload payload_end
     payload_there =
         let n : payload_end bs - after_header bs ≡ bytes_left bs - cond (padded bs) (pad_count bs) 0 = omega arith in
-        rw (place.from, place.to, n)
+        rw (from, to, n)
 
 pub ruleset heading = (
   rules,
@@ -233,10 +218,17 @@ pub ruleset heading = (
   pad_within,
   too_short,
   bare,
+  bare_start,
+  bare_end,
   wrong_version,
   header_past,
   start_found,
   start_within,
   bad_pad,
   header_found,
+  end_found,
 )
+
+pub ruleset whole = (rules, header_whole)
+
+pub ruleset lying = (rules, starts_before_end, ends_within, payload_there)

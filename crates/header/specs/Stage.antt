@@ -2,11 +2,7 @@
 -- refusals 5 and 6 stand between them. Every number is that of the model's definitions.
 use Rattle.std.specs.Prelude.{ℕ, ◌-◌, cond, ◌&&◌, ◌||◌, List, ltb, eqb, length}
 use Rattle.refusals.specs.Refusals.{Told, telling, none, ◌if◌else◌, header_past_end, bad_padding}
-use Rattle.model.specs.Packet.{padded, after_header, bytes_left, pad_count, header_refusal}
-use Rattle.header.specs.declared.Place.{Place}
-
-abbrev pub no_place : Place
-no_place = record { start = 0; end = 0 }
+use Rattle.model.specs.Packet.{padded, after_header, bytes_left, pad_count}
 
 -- where the payload starts, unless the CSRC list or the extension runs past the end
 unfoldable pub start_of : List ℕ → Told ℕ
@@ -22,7 +18,3 @@ end_of bs =
     (bad_padding if padded bs && (eqb (pad_count bs) 0 || ltb (bytes_left bs) (pad_count bs)) else none)
     0
     (payload_end bs)
-
--- the first stage: the payload's place
-unfoldable pub header_of : List ℕ → Told Place
-header_of bs = telling (header_refusal bs) no_place (record { start = after_header bs; end = payload_end bs })

@@ -2,18 +2,22 @@
 #![tactic(auto)]
 
 ghost use Rattle.std.specs.Prelude.{◌≡◌, ◌≤◌, length};
-ghost use Rattle.model.specs.Packet.{marker, payload_type, sequence, timestamp, ssrc, after_header};
-ghost use Rattle.refusals.specs.Refusals.{told};
-ghost use Rattle.header.specs.Stage.{start_of, end_of, no_place, header_of};
+ghost use Rattle.model.specs.Packet.{after_header, header_refusal};
+ghost use Rattle.refusals.specs.Refusals.{told, none};
+ghost use Rattle.header.specs.Stage.{start_of, payload_end, end_of};
 
 use big_endian::{number_16, number_32};
 use refusals::Refusal;
 
-// Where a payload starts and ends in a packet.
-#[derive(Clone, Copy, Debug, PartialEq, Eq)]
-pub struct Place {
+// A packet whose header was read, and nothing refused; its payload lies from `start` up to `end`.
+#[derive(Clone, Copy)]
+pub struct Header<'a> {
+    pub packet: &'a [u8],
     pub start: usize,
     pub end: usize,
+    pub ghost unrefused: { header_refusal packet.now ≡ none },
+    pub ghost starts: { start ≡ after_header packet.now },
+    pub ghost ends: { end ≡ payload_end packet.now },
 }
 
 // Where the payload starts: after the CSRC list and, if X is set, the extension.
@@ -56,65 +60,78 @@ fn end_of(s: &[u8], start: usize) -> Result<usize, Refusal>
     Ok(len - pad)
 }
 
-// Reads a packet's header as far as its payload's place: refusals 1 to 4.
-#[tactic(auto, using(crate::proofs::Laws::heading))]
-pub fn header_of(s: &[u8]) -> Result<Place, Refusal>
-    ensures { told no_place result ≡ header_of s.now }
-{
-    if s.len() < 12 {
-        return Err(Refusal::TooShort);
+impl<'a> Header<'a> {
+    ghost use Rattle.std.specs.Prelude.{take, drop};
+    ghost use Rattle.model.specs.Packet.{marker, payload_type, sequence, timestamp, ssrc, payload};
+    ghost use Rattle.header.specs.Reads.{ReadsUnless};
+
+    // Reads a packet's header as far as its payload's place: refusals 1 to 4.
+    #[tactic(auto, using(crate::proofs::Laws::heading))]
+    pub fn read(packet: &'a [u8]) -> Result<Self, Refusal>
+        ensures { ReadsUnless (header_refusal packet.now) packet.entry result }
+    {
+        let len = packet.len();
+        if len < 12 {
+            return Err(Refusal::TooShort);
+        }
+        // Version 2 with no padding, extension or CSRC list, as nearly all senders have it.
+        if packet[0] == 0x80 {
+            return Ok(Header {
+                packet,
+                start: 12,
+                end: len,
+            });
+        }
+        if packet[0] / 64 != 2 {
+            return Err(Refusal::WrongVersion);
+        }
+        let start = start_of(packet)?;
+        let end = end_of(packet, start)?;
+        Ok(Header { packet, start, end })
     }
-    // Version 2 with no padding, extension or CSRC list, as nearly all senders have it.
-    if s[0] == 0x80 {
-        return Ok(Place {
-            start: 12,
-            end: s.len(),
-        });
+
+    // M.
+    #[tactic(auto, using(crate::proofs::Laws::whole))]
+    pub fn marker(self) -> bool
+        ensures { result ≡ marker self.entry.packet.now }
+    {
+        self.packet[1] / 128 == 1
     }
-    if s[0] / 64 != 2 {
-        return Err(Refusal::WrongVersion);
+
+    // PT.
+    #[tactic(auto, using(crate::proofs::Laws::whole))]
+    pub fn payload_type(self) -> u8
+        ensures { result ≡ payload_type self.entry.packet.now }
+    {
+        self.packet[1] % 128
     }
-    let start = start_of(s)?;
-    let end = end_of(s, start)?;
-    Ok(Place { start, end })
-}
 
-// M, of a header that is there whole.
-pub fn marker(s: &[u8]) -> bool
-    requires { 12 ≤ length s.now }
-    ensures { result ≡ marker s.now }
-{
-    s[1] / 128 == 1
-}
+    #[tactic(auto, using(crate::proofs::Laws::whole))]
+    pub fn sequence(self) -> u16
+        ensures { result ≡ sequence self.entry.packet.now }
+    {
+        number_16(self.packet, 2)
+    }
 
-// PT, of a header that is there whole.
-pub fn payload_type(s: &[u8]) -> u8
-    requires { 12 ≤ length s.now }
-    ensures { result ≡ payload_type s.now }
-{
-    s[1] % 128
-}
+    #[tactic(auto, using(crate::proofs::Laws::whole))]
+    pub fn timestamp(self) -> u32
+        ensures { result ≡ timestamp self.entry.packet.now }
+    {
+        number_32(self.packet, 4)
+    }
 
-// The sequence number, of a header that is there whole.
-pub fn sequence(s: &[u8]) -> u16
-    requires { 12 ≤ length s.now }
-    ensures { result ≡ sequence s.now }
-{
-    number_16(s, 2)
-}
+    #[tactic(auto, using(crate::proofs::Laws::whole))]
+    pub fn ssrc(self) -> u32
+        ensures { result ≡ ssrc self.entry.packet.now }
+    {
+        number_32(self.packet, 8)
+    }
 
-// The timestamp, of a header that is there whole.
-pub fn timestamp(s: &[u8]) -> u32
-    requires { 12 ≤ length s.now }
-    ensures { result ≡ timestamp s.now }
-{
-    number_32(s, 4)
-}
-
-// The SSRC, of a header that is there whole.
-pub fn ssrc(s: &[u8]) -> u32
-    requires { 12 ≤ length s.now }
-    ensures { result ≡ ssrc s.now }
-{
-    number_32(s, 8)
+    // The payload, without the padding.
+    #[tactic(auto, using(crate::proofs::Laws::lying))]
+    pub fn payload(self) -> &'a [u8]
+        ensures { result.now ≡ payload self.entry.packet.now }
+    {
+        &self.packet[self.start..self.end]
+    }
 }

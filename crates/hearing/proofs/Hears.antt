@@ -1,13 +1,13 @@
 -- Hearing a payload: each way through it, and what its answer says of the payload.
-use Prim.Native.Nat.{ℕ, ◌+◌, ◌*◌, ◌-◌, ◌%◌, ◌≤◌, ◌<◌}
-use mathlib.Core.Path.{◌≡◌, sym, ◌∙◌, ap}
+use Prim.Native.Nat.{ℕ, ◌+◌, ◌*◌, ◌≤◌, ◌<◌}
+use mathlib.Core.Path.{◌≡◌}
 use mathlib.Core.Bool.{Bool}
 use mathlib.Core.List.{List}
 use native.Mathlib.Omega.{arith}
 use borrow.Author.Rules.{rules}
 use borrow.Author.Tests.{le-leb, lt-leb}
 use Rattle.model.specs.declared.Head.{Head}
-use Rattle.model.specs.Packet.{bit, payload_refusal}
+use Rattle.model.specs.Packet.{bit}
 use Rattle.model.specs.Receive.{offset, unheard}
 use Rattle.model.proofs.Minus.{wrapped}
 use Rattle.refusals.specs.Refusals.{answered, refused_by}

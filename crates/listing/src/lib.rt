@@ -35,11 +35,7 @@ fn opened<S: Read + Drop>(session: io::Result<S>) -> Result<Table, BadSession>
         ssrc,
         origin,
     } = session_of(&text[..bytes]).map_err(BadSession::Line)?;
-    let opened = opening::open(codes::keys(), payload_type, ssrc, origin);
-    if opened.refusal != 0 {
-        return Err(BadSession::PayloadType);
-    }
-    Ok(opened.table)
+    opening::open(codes::keys(), payload_type, ssrc, origin).map_err(|_| BadSession::PayloadType)
 }
 
 // Lists what an opened table holds after a capture.

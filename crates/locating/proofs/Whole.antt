@@ -1,12 +1,12 @@
 -- A packet whose blocks were located: what is known of it, and a plain one, which is one block.
 use Prim.Native.Nat.{ℕ, ◌≤◌}
 use mathlib.Core.Path.{◌≡◌, refl, sym, ◌∙◌, ap}
-use mathlib.Core.Bool.{Bool, true, false, cond, ◌&&◌}
+use mathlib.Core.Bool.{Bool, true, false, ◌&&◌}
 use mathlib.Core.List.{List, [], ◌∷◌}
 use native.Mathlib.Omega.{arith}
 use borrow.Author.Rules.{rules}
-use borrow.Author.Tests.{eqb-true, ltb-false}
-use lib.Dec.{eqb, ltb}
+use borrow.Author.Tests.{ltb-false}
+use lib.Dec.{ltb}
 use lib.ListN.{length}
 use Rattle.model.specs.declared.Head.{Head}
 use Rattle.model.specs.declared.BlockStep.{BlockStep}
@@ -24,8 +24,8 @@ use Rattle.model.specs.declared.Cursor.{Cursor}
 use Rattle.blocks.specs.declared.step.Block.{Block}
 use Rattle.blocks.specs.Step.{step_of}
 use Rattle.locating.specs.declared.Located.{Located}
-use Rattle.locating.specs.declared.Located.TheVariants as located
-use Rattle.locating.specs.Located.{nowhere, located_at, cursor_in, plain_in, body_of, located_in, locating, first_step, Locates}
+use Rattle.locating.specs.declared.Blocks.TheVariants as at
+use Rattle.locating.specs.Located.{nowhere, located_at, cursor_of, plain_of, cursor_in, plain_in, body_of, located_in, locating, first_step, Locates}
 
 -- A PACKET THAT WAS LOCATED
 
@@ -37,7 +37,7 @@ module _ (h : Head) (bs : List ℕ) (room : ℕ) (o : Located) (w : Locates h bs
   pub unrefused : refusal_of_both h bs room ≡ 0
   unrefused = accepted.0
 
-  its_kind : (b : Bool) (c : Cursor) → (cursor_in (located_at b c) ≡ c) × (plain_in (located_at b c) ≡ b)
+  its_kind : (b : Bool) (c : Cursor) → (cursor_of (located_at b c) ≡ c) × (plain_of (located_at b c) ≡ b)
   its_kind true c = (refl, refl)
   its_kind false c = (refl, refl)
 
@@ -46,6 +46,12 @@ module _ (h : Head) (bs : List ℕ) (room : ℕ) (o : Located) (w : Locates h bs
 
   pub at_cursor : cursor_in o ≡ its_cursor
   at_cursor = ap cursor_in accepted.1 ∙ (its_kind (is_plain h bs) its_cursor).0
+
+  pub at_time : o.timestamp ≡ timestamp bs
+  at_time = ap (λ (l : Located). l.timestamp) accepted.1
+
+  pub is_marked : o.marked ≡ marker bs
+  is_marked = ap (λ (l : Located). l.marked) accepted.1
 
   pub of_kind : plain_in o ≡ is_plain h bs
   of_kind = ap plain_in accepted.1 ∙ (its_kind (is_plain h bs) its_cursor).1
@@ -114,12 +120,12 @@ module _ (h : Head) (bs : List ℕ) (room : ℕ) (o : Located) (w : Locates h bs
 
 -- its first block
 module _ (type : ℕ) (bs : List ℕ) (o : Located) (c : Cursor) where
-  pub first_plain : o ≡ located.Plain c → (b : Block) → step_of c (Some b) ≡ primary_step c type → step_of (cursor_in o) (Some b) ≡ first_step type bs o
+  pub first_plain : o.blocks ≡ at.Plain c → (b : Block) → step_of c (Some b) ≡ primary_step c type → step_of (cursor_in o) (Some b) ≡ first_step type bs o
   unfolding first_step
   first_plain p b e = rw p e
 
-  pub first_carried : o ≡ located.Redundant c → (b : Option Block) → step_of c b ≡ block_step bs c → step_of (cursor_in o) b ≡ first_step type bs o
+  pub first_carried : o.blocks ≡ at.Redundant c → (b : Option Block) → step_of c b ≡ block_step bs c → step_of (cursor_in o) b ≡ first_step type bs o
   unfolding first_step
   first_carried p b e = rw p e
 
-pub ruleset FirstBlock = (rules, first_plain, first_carried)
+pub ruleset first_blocks = (rules, first_plain, first_carried)

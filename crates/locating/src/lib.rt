@@ -3,13 +3,14 @@
 
 ghost use Rattle.std.specs.Prelude.{◌≡◌};
 ghost use Rattle.refusals.specs.Refusals.{told};
-ghost use Rattle.header.specs.Stage.{no_place};
+ghost use Rattle.header.specs.Reads.{ReadsUnless};
+ghost use Rattle.model.specs.Redundant.{refusal_for_both};
 ghost use Rattle.blocks.specs.Step.{step_of};
-ghost use Rattle.locating.specs.Located.{is_for, header_for_both, nowhere, cursor_in, locating, first_step};
+ghost use Rattle.locating.specs.Located.{is_for, nowhere, cursor_in, locating, first_step};
 
 use block_headers::scan;
 use blocks::step::{Block, block_at, primary_at};
-use header::{Place, header_of, payload_type, ssrc};
+use header::Header;
 use model::{Cursor, Head};
 use refusals::Refusal;
 
@@ -22,29 +23,37 @@ fn is_for(payload_type: u8, both_types: u8, redundant_type: u8, kind: u8) -> boo
 
 // Where a packet's blocks stand: a plain packet has one, whose body is all its payload.
 #[derive(Clone, Copy)]
-pub enum Located {
+pub enum Blocks {
     Plain(Cursor),
     Redundant(Cursor),
 }
 
+// A packet's timestamp and marker, and where its blocks stand.
+#[derive(Clone, Copy)]
+pub struct Located {
+    pub timestamp: u32,
+    pub marked: bool,
+    pub blocks: Blocks,
+}
+
 // Reads the header of a packet as far as its payload's place, and refuses one that is not the table's: 1 to 6.
 #[tactic(auto, using(crate::proofs::Locates::locates))]
-fn header_for_both(head: Head, packet: &[u8]) -> Result<Place, Refusal>
-    ensures { told no_place result ≡ header_for_both head packet.now }
+fn header_for_both<'a>(head: Head, packet: &'a [u8]) -> Result<Header<'a>, Refusal>
+    ensures { ReadsUnless (refusal_for_both head packet.now) packet.entry result }
 {
-    let place = header_of(packet)?;
+    let header = Header::read(packet)?;
     if !is_for(
         head.payload_type,
         head.both_types,
         head.redundant_type,
-        payload_type(packet),
+        header.payload_type(),
     ) {
         return Err(Refusal::OtherPayloadType);
     }
-    if ssrc(packet) != head.ssrc {
+    if header.ssrc() != head.ssrc {
         return Err(Refusal::OtherSsrc);
     }
-    Ok(place)
+    Ok(header)
 }
 
 // Locates the blocks of a packet for a table and so many entries, or refuses it with 1 to 6, 18, 19 or 15.
@@ -52,35 +61,45 @@ fn header_for_both(head: Head, packet: &[u8]) -> Result<Place, Refusal>
 pub fn locate(head: Head, packet: &[u8], room: usize) -> Result<Located, Refusal>
     ensures { told nowhere result ≡ locating head packet.now room }
 {
-    let Place { start, end } = header_for_both(head, packet)?;
-    if payload_type(packet) == head.payload_type {
+    let header = header_for_both(head, packet)?;
+    let timestamp = header.timestamp();
+    let marked = header.marker();
+    if header.payload_type() == head.payload_type {
         if room < 1 {
             return Err(Refusal::ListTooSmall);
         }
-        return Ok(Located::Plain(Cursor {
-            header: start,
-            body: start,
-            end,
-        }));
+        return Ok(Located {
+            timestamp,
+            marked,
+            blocks: Blocks::Plain(Cursor {
+                header: header.start,
+                body: header.start,
+                end: header.end,
+            }),
+        });
     }
-    let scanned = scan(packet, start, end, head.payload_type)?;
+    let scanned = scan(header, head.payload_type)?;
     if room < scanned.of_type {
         return Err(Refusal::ListTooSmall);
     }
-    Ok(Located::Redundant(Cursor {
-        header: start,
-        body: scanned.body,
-        end,
-    }))
+    Ok(Located {
+        timestamp,
+        marked,
+        blocks: Blocks::Redundant(Cursor {
+            header: header.start,
+            body: scanned.body,
+            end: header.end,
+        }),
+    })
 }
 
 // The first block of a packet, where a table's payload type is this one.
-#[tactic(auto, using(crate::proofs::Whole::FirstBlock))]
+#[tactic(auto, using(crate::proofs::Whole::first_blocks))]
 pub fn first_block(payload_type: u8, packet: &[u8], located: Located) -> Option<Block>
     ensures { step_of (cursor_in located) result ≡ first_step payload_type packet.now located }
 {
-    match located {
-        Located::Plain(cursor) => Some(primary_at(cursor, payload_type)),
-        Located::Redundant(cursor) => block_at(packet, cursor),
+    match located.blocks {
+        Blocks::Plain(cursor) => Some(primary_at(cursor, payload_type)),
+        Blocks::Redundant(cursor) => block_at(packet, cursor),
     }
 }

@@ -28,7 +28,7 @@ pub fn in_range(codes: Codes, p: Plan) -> bool
 }
 
 // The reports of a segment before its end: one at each multiple of the period below its length. Mostly they are few, and half the
-// steps find them.
+// steps find them. Each call has a fixed number of steps, which the compiler lays out one after another.
 pub fn interim_count(units: u32, period: u32) -> u32
     requires le_units { 1 ≤ units }
     requires units_bound { units ≤ 65535 }
@@ -36,8 +36,11 @@ pub fn interim_count(units: u32, period: u32) -> u32
     requires period_bound { period ≤ 65535 }
     ensures { result ≡ interim_count period units }
 {
-    let bits = if units <= period * 256 { 8 } else { 16 };
-    divide(units - 1, period, bits).quotient
+    if units <= period * 256 {
+        divide(units - 1, period, 8).quotient
+    } else {
+        divide(units - 1, period, 16).quotient
+    }
 }
 
 // The plan's reports: those of each full segment, and of the last, which holds at least one unit. Each has three at its end.

@@ -5,7 +5,6 @@ ghost use Rattle.std.specs.Prelude.{◌≤◌, length};
 ghost use Rattle.printing.specs.Output.{HasRoom, Puts};
 
 use arrayvec::ArrayString;
-use grouping::event_from;
 use itoa::Buffer;
 use model::{Event, Head};
 use pieces::{Counts, SoFar};
@@ -15,6 +14,16 @@ use std::io::Error;
 const ROOM: usize = 28_832;
 
 type Text = ArrayString<ROOM>;
+
+const NO_EVENT: Event = Event {
+    code: 0,
+    start: 0,
+    length: 0,
+    volume: 0,
+    quietest: 0,
+    began: false,
+    ended: false,
+};
 
 // The system's words for an error, which stand before its number.
 fn words(said: &str) -> &str {
@@ -74,12 +83,12 @@ fn events(text: &mut Text, head: Head, keys: &[u64; 128], heard: &[u32; 128]) ->
     requires { HasRoom 28672 text.old }
     ensures { Puts 28672 text.old text.new }
 {
-    let n = events::answer_for(head, keys, heard, 128).events;
-    let mut from = 0;
-    for _ in 0..n {
-        let place = events::event_place(keys, heard, head.count, from, 0);
-        event(text, event_from(keys, heard, head.count, place));
-        from = place + 1;
+    let mut list = [NO_EVENT; 128];
+    let Ok(n) = events::list(head, keys, heard, &mut list) else {
+        return 0;
+    };
+    for &v in &list[..n] {
+        event(text, v);
     }
     n
 }

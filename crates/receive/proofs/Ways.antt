@@ -1,7 +1,7 @@
 -- The receiving calls: 16, and the steps together, as laws over a head, two columns and a packet's bytes.
 use Prim.Native.Nat.{ℕ, ◌≤◌, ◌<◌}
 use mathlib.Core.Path.{◌≡◌, refl, sym, ◌∙◌, ap}
-use mathlib.Core.Bool.{Bool, true, false, not, cond, false≢true}
+use mathlib.Core.Bool.{Bool, true, false, not, cond}
 use mathlib.Core.List.{List}
 use native.Mathlib.Omega.{arith}
 use borrow.Author.Rules.{rules}
@@ -37,13 +37,13 @@ use Rattle.theorems.proofs.Numbers.{segment_back}
 use Rattle.theorems.proofs.Looks.{hears_with_8, looks_at_8}
 use Rattle.theorems.proofs.Entries.{hears_below_256, receives_below_256}
 use Rattle.theorems.proofs.Runs.{PayloadFits, packet_report_fits, hear_stays_valid, stays_valid}
-use Rattle.table.specs.Columns.{Takes, taken_into}
-use Rattle.refusals.specs.Refusals.{Told, answered, refused_by}
+use Rattle.table.specs.Columns.{taken_into}
+use Rattle.refusals.specs.Refusals.{Told, refused_by}
 use Rattle.hearing.specs.declared.Heard.{Heard}
 use Rattle.hearing.specs.Sayings.{arrival, nothing_heard, hearing_of}
 use Rattle.receive.specs.declared.Tested.{Tested}
 use Rattle.receive.specs.Steps.{hearing_in, taken_heard, TakesHeard}
-use Rattle.receive.specs.Receives.{in_table, Does, Receives, Hears}
+use Rattle.receive.specs.Receives.{Does}
 use Rattle.receive.proofs.Stepwise.{took, not_heard}
 
 pub passed : (t : Table) (b : Bool) → b ≡ valid t → not b ≡ false → valid t ≡ true

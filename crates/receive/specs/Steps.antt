@@ -1,23 +1,16 @@
--- The steps of receiving: the header of a packet that is the table's, its payload, and the table.
+-- The steps of receiving: what a packet's report says to a table, and the table after it.
 use Rattle.std.specs.Prelude.{ℕ, ◌≡◌, cond, List, eqb}
 use Rattle.model.specs.declared.Head.{Head}
 use Rattle.model.specs.declared.Table.{Table}
 use Rattle.model.specs.declared.Received.{Received}
-use Rattle.refusals.specs.Refusals.{Told, telling, refused_by, none}
-use Rattle.model.specs.Packet.{after_header}
+use Rattle.refusals.specs.Refusals.{Told, refused_by, none}
 use Rattle.model.specs.Table.{segment_of, table_of, holding}
 use Rattle.model.specs.Receive.{arrival_in, refusal_for, Receiving, refusing}
-use Rattle.header.specs.declared.Place.{Place}
-use Rattle.header.specs.Stage.{no_place, payload_end}
 use Rattle.table.specs.Columns.{taken_into}
 use Rattle.hearing.specs.declared.Heard.{Heard}
 use Rattle.hearing.specs.Sayings.{nothing_heard, hearing_of}
 
--- 1 to 6
-unfoldable pub header_for : Head → List ℕ → Told Place
-header_for h bs = telling (refusal_for h bs) no_place (record { start = after_header bs; end = payload_end bs })
-
--- then 17 or 7, and 8 to 10
+-- 1 to 6, then 17 or 7, and 8 to 10
 unfoldable pub hearing_in : Head → List ℕ → Told Heard
 hearing_in h bs = cond (eqb (refusal_for h bs) none) (hearing_of h (arrival_in bs)) (refused_by (refusal_for h bs) nothing_heard)
 

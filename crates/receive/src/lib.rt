@@ -1,5 +1,5 @@
-// The receiving call, in place on a table whose columns are lent. Each of the two methods takes apart what was heard by itself: as a step
-// of its own this is more than the compiler puts into them.
+// The receiving call, in place on a table whose columns are lent. The methods are put into their callers, which saves a call for each
+// packet. What `take` answers goes on field by field: copied whole, it is read in wider pieces than it was written in, and waits for them.
 #![tactic(auto)]
 
 ghost use Rattle.std.specs.Prelude.{◌≤◌, ◌≡◌, true};
@@ -11,7 +11,7 @@ mod steps;
 use hearing::hear;
 use model::{Head, Received};
 use refusals::Refusal;
-use steps::{hear_packet, passes};
+use steps::hear_packet;
 use table::{refused, take};
 
 // A table that passes the tests, in columns that are lent.
@@ -27,28 +27,50 @@ impl Tested<'_> {
     ghost use Rattle.receive.specs.Receives.{Receives, Hears};
 
     // Receives a packet: its report is taken, or it is refused with 1 to 11 or 17, and the table is as it was.
+    #[inline(always)]
     pub fn receive(&mut self, packet: &[u8]) -> Received
         ensures { Receives self.old packet.now result self.new }
     {
         match hear_packet(self.head, packet) {
             Ok(said) => {
-                let got = take(self.head, self.keys, self.heard, said.key, said.told);
-                self.head.count = got.count;
-                got
+                let Received {
+                    refusal,
+                    is_new,
+                    count,
+                    probes,
+                } = take(self.head, self.keys, self.heard, said.key, said.told);
+                self.head.count = count;
+                Received {
+                    refusal,
+                    is_new,
+                    count,
+                    probes,
+                }
             }
             Err(refusal) => refused(refusal, self.head.count),
         }
     }
 
     // Hears a payload at its timestamp, marked or not, and takes it, or refuses it with 7 to 11 or 17, and the table is as it was.
+    #[inline(always)]
     pub fn hear(&mut self, timestamp: u32, marked: bool, payload: &[u8]) -> Received
         ensures { Hears self.old timestamp marked payload.now result self.new }
     {
         match hear(self.head, timestamp, marked, payload) {
             Ok(said) => {
-                let got = take(self.head, self.keys, self.heard, said.key, said.told);
-                self.head.count = got.count;
-                got
+                let Received {
+                    refusal,
+                    is_new,
+                    count,
+                    probes,
+                } = take(self.head, self.keys, self.heard, said.key, said.told);
+                self.head.count = count;
+                Received {
+                    refusal,
+                    is_new,
+                    count,
+                    probes,
+                }
             }
             Err(refusal) => refused(refusal, self.head.count),
         }
@@ -64,7 +86,7 @@ pub fn receive(head: Head, keys: &mut [u64; 128], heard: &mut [u32; 128], packet
         ≡ (receive (table_of head keys.old heard.old) packet.now).table }
     ensures probes_bound { result.probes ≤ 8 }
 {
-    if !passes(head, keys, heard) {
+    if !valid::is_valid(head, keys, heard) {
         return refused(Refusal::InvalidTable, head.count);
     }
     let mut table = Tested { head, keys, heard };

@@ -1,6 +1,6 @@
 -- What is stored at a place of a column, from which on the others moved up by one, is put in there.
 use Prim.Native.Nat.{ℕ, suc, ◌+◌, ◌-◌, ◌≤◌, ◌<◌}
-use mathlib.Core.Path.{◌≡◌, refl, sym, ◌∙◌, ap}
+use mathlib.Core.Path.{◌≡◌, sym, ◌∙◌, ap}
 use mathlib.Core.List.{List, [], ◌∷◌, ◌++◌}
 use native.Mathlib.Numerals.{add-one}
 use native.Mathlib.Omega.{arith}
@@ -30,5 +30,10 @@ module _ {A : Type 0} (l : List A) (n i : ℕ) (x : A) (within : i ≤ n) (fits 
       let room : i < length (take i l ++ (get_or l i x ∷ later)) = omega (arith, length-append (take i l) (get_or l i x ∷ later)) in
       let all : i + (n - i) ≡ n = omega arith in
       let behind : drop i (take n l) ≡ later = ap (λ (k : ℕ). drop i (take k l)) (sym all) ∙ drop-take i (n - i) l in
-      rw (moved, take-take i n l within, behind, set-append_left (take i l ++ (get_or l i x ∷ later)) (drop (n + 1) l) i x room,
-      set_at (take i l) (get_or l i x) later x i long)
+      rw (
+        moved,
+        take-take i n l within,
+        behind,
+        set-append_left (take i l ++ (get_or l i x ∷ later)) (drop (n + 1) l) i x room,
+        set_at (take i l) (get_or l i x) later x i long,
+      )

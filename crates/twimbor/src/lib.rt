@@ -22,7 +22,6 @@ use model::{
     BlocksReceived, Captured, Codes, Event, Head, Listed, OlderReport, Opened, Plan, Received,
     Report,
 };
-use grouping::Held;
 use results::{CountResult, EventResult, ReadResult};
 
 // Reads a packet: refusal 1, 2, 3, 4, 17 or 7, 8 if its code is not in the set, or 9, or the report that it carries.
@@ -169,7 +168,15 @@ pub extern "C" fn twimbor_write_redundant(
     ensures value { result ≡ (write_redundant codes r redundant_type count first second out.old).answer.number }
     ensures out_after { out.new ≡ (write_redundant codes r redundant_type count first second out.old).output }
 {
-    results::written(block_writer::write_redundant(codes, r, redundant_type, count, first, second, out))
+    results::written(block_writer::write_redundant(
+        codes,
+        r,
+        redundant_type,
+        count,
+        first,
+        second,
+        out,
+    ))
 }
 
 // The event at number k, counted from 1 by start, then code, or 16 or 13.
@@ -196,15 +203,5 @@ pub extern "C" fn twimbor_list_columns<'a>(
     ensures value { result ≡ (list (table_of head keys.now heard.now) out.old).answer }
     ensures out_after { out.new ≡ (list (table_of head keys.now heard.now) out.old).records }
 {
-    let answer = events::answer_for(head, keys, heard, out.len());
-    if let Ok(n) = answer {
-        let held = Held::of(keys, heard, head.count);
-        let mut from = 0;
-        for k in 0..n {
-            let place = events::event_place(held, from, 0);
-            out[k] = held.event_from(place);
-            from = place + 1;
-        }
-    }
-    results::listed(answer)
+    results::listed(events::list(head, keys, heard, out))
 }

@@ -1,5 +1,5 @@
 -- The codes of keys against a set: one by one, or all at once if they are among the 16 lowest and the set has all of these.
-use Rattle.std.proofs.Common.{◌≡◌, ℕ, zero, suc, ◌+◌, ◌/◌, ◌%◌, ◌^◌, ◌<◌, ◌≤◌, Bool, true, false, not, List, length, get_or, sym, refl, ap, ◌∙◌, true≢false, div-one, arith, eq-eqb}
+use Rattle.std.proofs.Common.{◌≡◌, ℕ, zero, suc, ◌+◌, ◌/◌, ◌%◌, ◌^◌, ◌<◌, Bool, true, false, not, List, length, get_or, sym, refl, ap, ◌∙◌, true≢false, div-one, arith, eq-eqb}
 use borrow.Author.Tests.{not-true, not-false}
 use Rattle.model.specs.declared.Codes.{Codes}
 use Rattle.model.specs.Codes.{is_in}

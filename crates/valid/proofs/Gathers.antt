@@ -3,7 +3,7 @@
 use Rattle.std.proofs.Common.{◌≡◌, ℕ, ◌+◌, ◌-◌, ◌/◌, ◌%◌, ◌^◌, ◌<◌, ◌≤◌, false, List, length, get_or, Some, None, ◌∙◌, ⊎_elim, eq-or-lt_of_le, arith}
 use mathlib.Core.Bool.{false≢true}
 use lib.Bits.{bit_and, bit_or, or_lt, or_mod, or_add_and, and_shr, and_self, and_le_l, and_le_r}
-use Rattle.valid.specs.Passes.{KeysPass, Tells, Ranks}
+use Rattle.valid.specs.Passes.{Tells, Ranks}
 
 -- GATHERED BITS
 

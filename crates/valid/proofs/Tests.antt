@@ -11,7 +11,7 @@ use Rattle.theorems.proofs.Order.{◌≺◌, before_if}
 use Rattle.theorems.proofs.Numbers.{key_back}
 use Rattle.theorems.proofs.Places.{entries_rise}
 use Rattle.theorems.proofs.Tables.{ValidSegment, valid_then, valid_if, tests_passed, held_length, held_at, valid_from, all_valid_from, rising_from}
-use Rattle.valid.specs.Passes.{CodesPass, KeysPass, HeardPass, Tells, Ranks, AllButCodes, Highest}
+use Rattle.valid.specs.Passes.{CodesPass, HeardPass, Tells, Ranks, AllButCodes, Highest}
 use Rattle.valid.proofs.Firsts.{FirstKeys, FirstHeard, FirstCodes, keys_there, keys_alone, heard_there, heard_alone, codes_there, codes_alone}
 use Rattle.valid.proofs.Coded.{all_are_low}
 use Rattle.segment.proofs.Keys.{before_key}

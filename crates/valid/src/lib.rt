@@ -2,8 +2,7 @@
 // time: the bits of all numbers are gathered, and since 2^31 is a power of two, one look at the bits that some key has tells
 // whether an offset is too large. They tell too whether all codes are among the 16 keys; if the set has these, no code
 // is looked at by itself. Of two numbers that are compared the difference is gathered: its highest bit tells which is larger, and is
-// among the bits that all differences have if all are so. There are two steps, each small enough for the compiler to put it into a
-// receiving call.
+// among the bits that all differences have if all are so.
 #![tactic(auto)]
 
 ghost use Rattle.std.specs.Prelude.{◌≡◌};
@@ -81,14 +80,10 @@ fn types_pass(head: Head) -> bool
             || head.redundant_type <= 127 && head.payload_type != head.redundant_type)
 }
 
-// The first step: what no code held is above, or none if a table fails another test than that of its codes: at most 128 segments held,
+// What no code held is above, or none if a table fails another test than that of its codes: at most 128 segments held,
 // the payload types, every segment within its ranges and after the one before it, by offset, then code.
 #[tactic(auto, using(crate::proofs::Laws::testing))]
-pub fn highest_code<'a>(
-    head: Head,
-    keys: &'a [u64; 128],
-    heard: &'a [u32; 128],
-) -> Option<u8>
+fn highest_code<'a>(head: Head, keys: &'a [u64; 128], heard: &'a [u32; 128]) -> Option<u8>
     ensures { Highest (table_of head keys.now heard.now) result }
 {
     let count = head.count;
@@ -102,30 +97,16 @@ pub fn highest_code<'a>(
     Some(highest)
 }
 
-// The second step: whether a table passes all tests, by what the first step found.
+// Whether a table passes the tests.
 #[tactic(auto, using(crate::proofs::Laws::testing))]
-pub fn passes<'a>(
-    head: Head,
-    keys: &'a [u64; 128],
-    heard: &'a [u32; 128],
-    highest: Option<u8>,
-) -> bool
-    requires { Highest (table_of head keys.now heard.now) highest }
+pub fn is_valid<'a>(head: Head, keys: &'a [u64; 128], heard: &'a [u32; 128]) -> bool
     ensures { result ≡ valid (table_of head keys.now heard.now) }
 {
-    let Some(highest) = highest else {
+    let Some(highest) = highest_code(head, keys, heard) else {
         return false;
     };
     if highest < 16 && head.codes.from_0 % 65536 == 65535 {
         return true;
     }
     each_in(head.codes, &keys[..head.count])
-}
-
-// Whether a table passes the tests.
-pub fn is_valid<'a>(head: Head, keys: &'a [u64; 128], heard: &'a [u32; 128]) -> bool
-    ensures { result ≡ valid (table_of head keys.now heard.now) }
-{
-    let highest = highest_code(head, keys, heard);
-    passes(head, keys, heard, highest)
 }

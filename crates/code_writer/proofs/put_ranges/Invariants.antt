@@ -3,8 +3,8 @@ use Prim.Native.Nat.{◌-◌}
 use Rattle.code_writer.proofs.Laws.{Listing}
 use Rattle.code_writer.proofs.put_ranges.Given as goal
 
-abbrev pub invariant-loop-first : goal.invariant-loop-first
-invariant-loop-first l = Listing l.codes l.initial.out l.first l.at l.out
+abbrev pub invariant-loop-range : goal.invariant-loop-range
+invariant-loop-range l = Listing l.codes l.initial.out l.from l.at l.out
 
-abbrev pub decreases-loop-first : goal.decreases-loop-first
-decreases-loop-first l = 256 - l.first
+abbrev pub decreases-loop-range : goal.decreases-loop-range
+decreases-loop-range l = 256 - l.from

@@ -1,6 +1,7 @@
--- The loop goes from event to event, and the text has room for the next.
-use Rattle.printing.proofs.Laws.{Printing}
+-- After k turns k events are put behind what was there.
+use Prim.Native.Nat.{◌*◌}
+use Rattle.printing.specs.Output.{Puts}
 use Rattle.printing.proofs.events.Given as goal
 
-abbrev pub invariant-loop : goal.invariant-loop
-invariant-loop l = Printing l.head l.keys l.heard l.fn.text l.text l.n l.counter l.from
+abbrev pub invariant-loop-v : goal.invariant-loop-v
+invariant-loop-v l = Puts (224 * l.v-index) l.fn.text l.text

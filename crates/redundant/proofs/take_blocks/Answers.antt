@@ -1,32 +1,14 @@
-use Rattle.redundant.proofs.Blockwise.{blockwise}
+use Rattle.locating.proofs.Whole.{at_time, is_marked}
+use Rattle.redundant.proofs.Blockwise.{all_taken, ready, goes_on}
 use Rattle.redundant.proofs.take_blocks.Goals as goal
 
-pub timestamp-time-requires : goal.timestamp-time-requires
-timestamp-time-requires c = search blockwise
+pub take_or_pass-taken-requires : goal.take_or_pass-taken-requires
+take_or_pass-taken-requires c = ready _ _ _ _ _ _ _ (rw c.in-Some.is at c.loop-next.invariant)
 
-pub marker-marked-requires : goal.marker-marked-requires
-marker-marked-requires c = search blockwise
-
-pub first_step-step-requires : goal.first_step-step-requires
-first_step-step-requires c = search blockwise
-
-pub loop-step-init : goal.loop-step-init
-loop-step-init c = search blockwise
-
-pub take_or_pass-entered-requires : goal.take_or_pass-entered-requires
-take_or_pass-entered-requires c = search blockwise
-
-pub block_step-step-requires : goal.block_step-step-requires
-block_step-step-requires c = search blockwise
-
-pub loop-step-smaller : goal.loop-step-smaller
-loop-step-smaller c = search blockwise
-
-pub loop-step-preserved : goal.loop-step-preserved
-loop-step-preserved c = search blockwise
-
-pub shape_of-entries : goal.shape_of-entries
-shape_of-entries c = search blockwise
+pub loop-next-preserved : goal.loop-next-preserved
+loop-next-preserved c =
+    goes_on _ _ _ _ _ _ _ (rw c.in-Some.is at c.loop-next.invariant) _ (at_time _ _ _ _ c.requires) _ (is_marked _ _ _ _ c.requires) _ _ _
+    c.take_or_pass-taken.ensures _ c.block_at-next.ensures
 
 pub returns : goal.returns
-returns c = search blockwise
+returns c = all_taken _ _ _ _ _ _ (rw c.in_default.is at c.loop-next.invariant)

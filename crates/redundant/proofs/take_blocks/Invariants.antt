@@ -1,8 +1,8 @@
 use Rattle.redundant.proofs.Blockwise.{Progress, steps_left}
 use Rattle.redundant.proofs.take_blocks.Given as goal
 
-abbrev pub invariant-loop-step : goal.invariant-loop-step
-invariant-loop-step l = Progress l.initial.after l.initial.keys l.initial.heard l.packet l.initial.entries l.after l.i l.step l.keys l.heard l.entries
+abbrev pub invariant-loop-next : goal.invariant-loop-next
+invariant-loop-next l = Progress l.initial.table l.packet l.initial.entries l.table l.taken l.next l.entries
 
-abbrev pub decreases-loop-step : goal.decreases-loop-step
-decreases-loop-step l = steps_left l.step
+abbrev pub decreases-loop-next : goal.decreases-loop-next
+decreases-loop-next l = steps_left l.next

@@ -6,12 +6,12 @@ use Rattle.receive.proofs.Tested.receive.Goals as goal
 
 pub invariant_of-self : goal.invariant_of-self
 invariant_of-self c =
-    let d : Does_in (receive (in_table c.args.self.now) c.args.packet.now) c.args.self.now.head c.take-got.result c.take-got.new.keys c.take-got.new.heard = search (ways, c.in-Ok.ensures) in
+    let d : Does_in (receive (in_table c.args.self.now) c.args.packet.now) c.args.self.now.head c.take-refusal.result c.take-refusal.new.keys c.take-refusal.new.heard = search (ways, c.in-Ok.ensures) in
     record { passes = d.passes }
 
 pub returns-in-Ok : goal.returns-in-Ok
 returns-in-Ok c =
-    let d : Does_in (receive (in_table c.args.self.now) c.args.packet.now) c.args.self.now.head c.take-got.result c.take-got.new.keys c.take-got.new.heard = search (ways, c.in-Ok.ensures) in
+    let d : Does_in (receive (in_table c.args.self.now) c.args.packet.now) c.args.self.now.head c.take-refusal.result c.take-refusal.new.keys c.take-refusal.new.heard = search (ways, c.in-Ok.ensures) in
     as_lent _ _ _ _ _ d _ refl refl refl refl refl
 
 pub returns-in-Err : goal.returns-in-Err
