@@ -137,7 +137,11 @@ impl Sample {
         let first = first_byte(n);
         bytes[0] = first;
         if has_extension(first) {
-            put(&mut bytes, after_csrcs(first) + 2, &words_of(n).to_be_bytes());
+            put(
+                &mut bytes,
+                after_csrcs(first) + 2,
+                &words_of(n).to_be_bytes(),
+            );
         }
         let start = payload_start(n, first);
         put(&mut bytes, start, &[code_of(n)]);
