@@ -44,7 +44,7 @@ impl Walk {
         }
     }
 
-    // The start of a part; one that has no bytes is passed.
+    // The start of a part of so many bytes; 0 for the rest, which ends where the packet does.
     fn enter(&mut self, part: Part, bytes: u32) {
         self.part = part;
         self.left = bytes;
