@@ -5,7 +5,6 @@
 ghost use Rattle.std.specs.Prelude.{◌≤◌, length};
 
 mod given;
-mod names;
 mod packets;
 mod row;
 mod sets;
@@ -14,140 +13,70 @@ mod tables;
 mod texts;
 mod walks;
 
-use model::{Codes, Head, Table};
+use model::Table;
 use row::Row;
+use std::io;
 use std::io::Stdout;
 
-// The place of the first such byte from a place on, or the end.
-fn find(s: &[u8], from: usize, byte: u8) -> usize
-    requires { from ≤ length s.now }
-    ensures low { from ≤ result }
-    ensures high { result ≤ length s.now }
-{
-    match s[from..].iter().position(|x| *x == byte) {
-        Some(k) => from + k,
-        None => s.len(),
-    }
-}
-
-// Calls on sets of codes, on texts and on blocks.
-fn text_row(to: Stdout, set: Codes, x: Row, b: &[u8]) {
-    let name = x.name;
-    match name {
-        names::TEXT => sets::read(to, b),
-        names::LENT => sets::lent(to, set, x),
-        names::CONTAINS => sets::contains(to, set, x),
-        names::SESSION => texts::session(to, b),
-        names::FRAME => texts::frame(to, x, b),
-        names::WALK => walks::walk(to, b),
-        names::STEP => walks::step(to, x, b),
-        _ => {}
-    }
-}
-
-// Calls on packets and plans.
-fn packet_row(to: Stdout, set: Codes, x: Row, b: &[u8]) {
-    let name = x.name;
-    match name {
-        names::READ => packets::read(to, set, b),
-        names::WRITE => packets::write(to, set, x),
-        names::WRITE_REDUNDANT => packets::write_redundant(to, set, x),
-        names::COUNT => packets::count(to, set, x),
-        names::REPORT => packets::report(to, set, x),
-        _ => text_row(to, set, x, b),
-    }
-}
-
-// Calls that leave the table as it is.
-fn told_row(to: Stdout, t: Table, x: Row, b: &[u8]) {
-    let name = x.name;
-    match name {
-        names::SEGMENT => tables::segment(to, t, x),
-        names::EVENT => tables::event(to, t, x),
-        names::LOOK => tables::look(to, t, x),
-        names::CAPTURE => tables::capture(to, t, b),
-        names::REDUNDANT => tables::redundant(to, t, x, b),
-        _ => packet_row(to, t.head.codes, x, b),
-    }
-}
-
-// The table after a row.
-fn table_row(to: Stdout, t: Table, x: Row, b: &[u8]) -> Table {
-    let name = x.name;
-    match name {
-        names::SET => tables::set(to, t, x),
-        names::OPEN => tables::open(to, t, x),
-        names::OPEN_REDUNDANT => tables::open_redundant(to, t, x),
-        names::RECEIVE => tables::receive(to, t, b),
-        names::FILL => tables::fill(to, t, x),
-        names::PUT => tables::put(t, x),
-        names::TABLE => tables::table(to, t, x),
-        _ => {
-            told_row(to, t, x, b);
-            t
+// Makes a row's call, on the table and the bytes lent to it, and prints the answer.
+fn call(to: Stdout, table: &mut Table, row: Row, bytes: &[u8]) -> io::Result<()> {
+    let codes = table.head.codes;
+    let numbers = row.numbers;
+    match row.name {
+        "read" => packets::read(to, codes, bytes),
+        "write" => packets::write(to, codes, numbers),
+        "write_redundant" => packets::write_redundant(to, codes, numbers),
+        "count" => packets::count(to, codes, numbers),
+        "report" => packets::report(to, codes, numbers),
+        "text" => sets::read(to, bytes),
+        "set" => sets::set(to, table, numbers),
+        "lent" => sets::lent(to, codes, numbers),
+        "contains" => sets::contains(to, codes, numbers),
+        "walk" => walks::walk(to, bytes),
+        "step" => walks::step(to, numbers, bytes),
+        "open" => tables::open(to, table, numbers),
+        "open_redundant" => tables::open_redundant(to, table, numbers),
+        "receive" => tables::receive(to, table, bytes),
+        "fill" => tables::fill(to, table, numbers),
+        "put" => {
+            tables::put(table, numbers);
+            Ok(())
         }
+        "table" => tables::table(to, table, numbers),
+        "look" => tables::look(to, *table, numbers),
+        "capture" => tables::capture(to, *table, bytes),
+        "redundant" => tables::redundant(to, *table, numbers, bytes),
+        "segment" => tables::segment(to, table, numbers),
+        "event" => tables::event(to, table, numbers),
+        "session" => texts::session(to, bytes),
+        "frame" => texts::frame(to, numbers, bytes),
+        _ => Ok(()),
     }
 }
 
-// How many bytes a row lends: those that it gives after a colon, or so many of those before as its first number says.
-fn lent(b: &mut [u8; 64], x: Row, line: &[u8], colon: usize) -> usize
-    requires { colon ≤ length line.now }
-    ensures { result ≤ 64 }
-{
-    let n = line.len();
-    if colon == n {
-        return given::size(x.a);
-    }
-    given::bytes(&line[colon + 1..n], b)
-}
-
-fn run(to: Stdout, t: Table, b: &mut [u8; 64], line: &[u8]) -> Table {
-    let colon = find(line, 0, b':');
-    let x = row::row_of(&line[0..colon]);
-    if x.name == names::COMMENT {
-        return t;
-    }
-    let n = lent(b, x, line, colon);
-    let all = &b[..];
-    table_row(to, t, x, &all[0..n])
-}
-
-fn no_table() -> Table {
-    let head = Head {
-        payload_type: 0,
-        both_types: 0,
-        redundant_type: 0,
-        ssrc: 0,
-        origin: 0,
-        codes: codes::keys(),
-        count: 0,
-    };
-    Table {
-        head: head,
-        keys: [0u64; 128],
-        heard: [0u32; 128],
-    }
-}
-
-fn rows(to: Stdout, text: &[u8]) {
-    let mut t = no_table();
-    let mut b = [0u8; 64];
-    let mut at = 0usize;
-    while at < text.len() {
-        let end = find(text, at, b'\n');
-        let line = &text[at..end];
-        show::text(to, line);
-        t = run(to, t, &mut b, line);
-        show::line(to);
-        if end == text.len() {
-            return;
+fn main(rt: HostRuntime) -> io::Result<()> {
+    let to = rt.stdout();
+    let alloc = rt.alloc();
+    let mut table = tables::none();
+    let mut bytes = Vec::new(alloc);
+    for line in rt.lines(alloc) {
+        let line = line?;
+        print!(to; "{line}")?;
+        if !line.starts_with('#') {
+            let row = Row::new(line.as_str());
+            let lent = match row.given {
+                Some(text) => {
+                    bytes = given::bytes_of(alloc, text)?;
+                    bytes.as_slice()
+                }
+                None => {
+                    bytes.resize(64, 0)?;
+                    &bytes[..row.numbers.clone()?.size(64)]
+                }
+            };
+            call(to, &mut table, row, lent)?;
         }
-        at = end + 1;
+        println!(to)?;
     }
-}
-
-fn main(rt: HostRuntime) {
-    let mut text = [0u8; 65536];
-    let got = input::read_full(&mut rt.stdin(), &mut text);
-    rows(rt.stdout(), &text[0..got.bytes]);
+    Ok(())
 }

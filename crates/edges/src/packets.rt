@@ -1,129 +1,116 @@
 // Packets read and written, and the sender's plan.
-use crate::given::size;
-use crate::row::{Row, rest};
+use crate::row::Numbers;
 use crate::show;
-use model::{Codes, CountAnswer, OlderReport, Plan, ReadAnswer, Report, WriteAnswer};
+use model::{Codes, OlderReport, Plan, Report};
+use refusals::Refusal;
+use std::io;
 use std::io::Stdout;
 
-fn short(n: u32) -> u16 {
-    (n % 0x1_0000) as u16
-}
-
 // M, payload type, sequence number, timestamp, SSRC, code, E, volume, duration.
-fn report_of(x: Row) -> Report {
+fn report_of(numbers: &mut Numbers) -> Report {
     Report {
-        marker: x.a == 1,
-        payload_type: x.b,
-        sequence: short(x.c),
-        timestamp: x.d,
-        ssrc: x.e,
-        code: x.f,
-        ended: x.g == 1,
-        volume: x.h,
-        duration: x.i,
+        marker: numbers.flag(),
+        payload_type: numbers.number(),
+        sequence: numbers.short(),
+        timestamp: numbers.number(),
+        ssrc: numbers.number(),
+        code: numbers.number(),
+        ended: numbers.flag(),
+        volume: numbers.number(),
+        duration: numbers.number(),
     }
 }
 
-fn older_of(timestamp: u32, code: u32, ended: u32, volume: u32, duration: u32) -> OlderReport {
+// Timestamp, code, E, volume, duration.
+fn older_of(numbers: &mut Numbers) -> OlderReport {
     OlderReport {
-        timestamp: timestamp,
-        code: code,
-        ended: ended == 1,
-        volume: volume,
-        duration: duration,
+        timestamp: numbers.number(),
+        code: numbers.number(),
+        ended: numbers.flag(),
+        volume: numbers.number(),
+        duration: numbers.number(),
     }
 }
 
 // Payload type, SSRC, first sequence number, start, code, volume, length, period, segment size.
-fn plan_of(x: Row) -> Plan {
+fn plan_of(numbers: &mut Numbers) -> Plan {
     Plan {
-        payload_type: x.a,
-        ssrc: x.b,
-        sequence: short(x.c),
-        start: x.d,
-        code: x.e,
-        volume: x.f,
-        length: x.g,
-        period: x.h,
-        segment_size: x.i,
+        payload_type: numbers.number(),
+        ssrc: numbers.number(),
+        sequence: numbers.short(),
+        start: numbers.number(),
+        code: numbers.number(),
+        volume: numbers.number(),
+        length: numbers.number(),
+        period: numbers.number(),
+        segment_size: numbers.number(),
     }
 }
 
-fn told(to: Stdout, r: Report) {
-    show::equals(to);
-    show::flag(to, r.marker);
-    show::word(to, r.payload_type);
-    show::half(to, r.sequence);
-    show::word(to, r.timestamp);
-    show::word(to, r.ssrc);
-    show::word(to, r.code);
-    show::flag(to, r.ended);
-    show::word(to, r.volume);
-    show::word(to, r.duration);
-    show::answer(to, 0);
-}
-
-pub fn read(to: Stdout, set: Codes, packet: &[u8]) {
-    let a = packet::read(set, packet);
-    match a {
-        ReadAnswer::Read(r) => told(to, r),
-        ReadAnswer::Refused(n) => show::answer(to, n),
+pub fn read(to: Stdout, codes: Codes, packet: &[u8]) -> io::Result<()> {
+    match packet::read(codes, packet) {
+        Ok(report) => print!(to;
+            " = {} {} {} {} {} {} {} {} {} -> 0",
+            u8::from(report.marker),
+            report.payload_type,
+            report.sequence,
+            report.timestamp,
+            report.ssrc,
+            report.code,
+            u8::from(report.ended),
+            report.volume,
+            report.duration
+        ),
+        Err(refusal) => show::refused(to, refusal),
     }
 }
 
 // How many reports a plan has.
-pub fn count(to: Stdout, set: Codes, x: Row) {
-    let a = plan::report_count(set, plan_of(x));
-    match a {
-        CountAnswer::Reports(n) => {
-            show::equals(to);
-            show::word(to, n);
-            show::answer(to, 0);
-        }
-        CountAnswer::Refused(n) => show::answer(to, n),
+pub fn count(to: Stdout, codes: Codes, mut numbers: Numbers) -> io::Result<()> {
+    match plan::report_count(codes, plan_of(&mut numbers)) {
+        Ok(reports) => print!(to; " = {reports} -> 0"),
+        Err(refusal) => show::refused(to, refusal),
     }
 }
 
-// What a writing call answered, and the first bytes of the output.
-fn written(to: Stdout, a: WriteAnswer, out: [u8; 34], shown: usize) {
-    match a {
-        WriteAnswer::Written => show::answer(to, 0),
-        WriteAnswer::Refused(n) => show::answer(to, n),
+// What a writing call answered, and all of the output.
+fn written(to: Stdout, answer: Result<(), Refusal>, out: &[u8]) -> io::Result<()> {
+    match answer {
+        Ok(()) => print!(to; " -> 0")?,
+        Err(refusal) => show::refused(to, refusal)?,
     }
-    if shown <= 34 {
-        show::bytes(to, &out[0..shown]);
-    }
+    show::bytes(to, out)
 }
 
 // How many bytes of 17 are lent, and a report.
-pub fn write(to: Stdout, set: Codes, x: Row) {
-    let room = size(x.a);
-    if room <= 17 {
-        let mut out = [0xEEu8; 34];
-        let a = writer::write(set, report_of(rest(x)), &mut out[0..room]);
-        written(to, a, out, 17);
-    }
+pub fn write(to: Stdout, codes: Codes, mut numbers: Numbers) -> io::Result<()> {
+    let mut out = [0xEE; 17];
+    let room = &mut out[..numbers.size(17)];
+    let answer = writer::write(codes, report_of(&mut numbers), room);
+    written(to, answer, &out)
 }
 
 // How many bytes of 17 are lent, a plan, and the report's number.
-pub fn report(to: Stdout, set: Codes, x: Row) {
-    let room = size(x.a);
-    if room <= 17 {
-        let mut out = [0xEEu8; 34];
-        let a = plan_report::write_report(set, plan_of(rest(x)), x.k, &mut out[0..room]);
-        written(to, a, out, 17);
-    }
+pub fn report(to: Stdout, codes: Codes, mut numbers: Numbers) -> io::Result<()> {
+    let mut out = [0xEE; 17];
+    let room = &mut out[..numbers.size(17)];
+    let plan = plan_of(&mut numbers);
+    let answer = plan_report::write_report(codes, plan, numbers.number(), room);
+    written(to, answer, &out)
 }
 
 // How many bytes of 34 are lent, a report, the redundant payload type, how many older reports, and two of them.
-pub fn write_redundant(to: Stdout, set: Codes, x: Row) {
-    let room = size(x.a);
-    if room <= 34 {
-        let r = report_of(rest(x));
-        let first = older_of(x.m, x.n, x.o, x.p, x.q);
-        let second = older_of(x.r, x.s, x.t, x.u, x.v);
-        let mut out = [0xEEu8; 34];
-        let a = block_writer::write_redundant(set, r, x.k, x.l, first, second, &mut out[0..room]);
-        written(to, a, out, 34);
-    }
+pub fn write_redundant(to: Stdout, codes: Codes, mut numbers: Numbers) -> io::Result<()> {
+    let mut out = [0xEE; 34];
+    let room = &mut out[..numbers.size(34)];
+    let answer = block_writer::write_redundant(
+        codes,
+        report_of(&mut numbers),
+        numbers.number(),
+        numbers.number(),
+        older_of(&mut numbers),
+        older_of(&mut numbers),
+        room,
+    );
+    written(to, answer, &out)
 }

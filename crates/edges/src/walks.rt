@@ -1,56 +1,53 @@
 // Walks over the blocks of a redundant packet.
-use crate::row::Row;
+use crate::row::Numbers;
 use crate::show;
-use blocks::step::{block_step, walk_start};
-use model::{BlockStep, Cursor};
+use blocks::step::block_step;
+use model::Cursor;
+use std::io;
 use std::io::Stdout;
-
-// A block: its type, its offset, its data's places, and whether it is the primary.
-fn block(to: Stdout, s: BlockStep) {
-    show::bar(to);
-    show::byte(to, s.payload_type);
-    show::half(to, s.offset);
-    show::size(to, s.start);
-    show::size(to, s.end);
-    show::flag(to, s.primary);
-}
-
-fn found(to: Stdout, s: BlockStep) {
-    if s.found {
-        block(to, s);
-    }
-}
+use walker::Walker;
 
 // All blocks, and whether the walk starts.
-pub fn walk(to: Stdout, packet: &[u8]) {
-    let start = walk_start(packet);
-    let mut cursor = start.cursor;
-    for turn in 0..8u32 {
-        let s = block_step(packet, cursor);
-        found(to, s);
-        cursor = s.after;
+pub fn walk(to: Stdout, packet: &[u8]) -> io::Result<()> {
+    match Walker::start(packet) {
+        Ok(walker) => {
+            for part in walker {
+                let block = part.block;
+                print!(to;
+                    " | {} {} {} {} {}",
+                    block.payload_type,
+                    block.offset,
+                    block.start,
+                    block.end,
+                    u8::from(block.primary)
+                )?;
+            }
+            print!(to; " -> 0")
+        }
+        Err(refusal) => show::refused(to, refusal),
     }
-    show::answer(to, start.refusal);
 }
 
 // The block at a cursor, the cursor after it, and whether there is one.
-fn told(to: Stdout, s: BlockStep, after: Cursor) {
-    block(to, s);
-    show::size(to, after.header);
-    show::size(to, after.body);
-    show::size(to, after.end);
-    show::answer(to, s.found as u8);
-}
-
-fn cursor_of(x: Row) -> Cursor {
-    Cursor {
-        header: x.b as usize,
-        body: x.c as usize,
-        end: x.d as usize,
-    }
-}
-
-pub fn step(to: Stdout, x: Row, packet: &[u8]) {
-    let s = block_step(packet, cursor_of(x));
-    told(to, s, s.after);
+pub fn step(to: Stdout, mut numbers: Numbers, packet: &[u8]) -> io::Result<()> {
+    // the first says how many bytes are lent
+    numbers.number();
+    let cursor = Cursor {
+        header: numbers.number() as usize,
+        body: numbers.number() as usize,
+        end: numbers.number() as usize,
+    };
+    let step = block_step(packet, cursor);
+    print!(to;
+        " | {} {} {} {} {} {} {} {} -> {}",
+        step.payload_type,
+        step.offset,
+        step.start,
+        step.end,
+        u8::from(step.primary),
+        step.after.header,
+        step.after.body,
+        step.after.end,
+        u8::from(step.found)
+    )
 }

@@ -7,6 +7,8 @@ mod random;
 mod reader;
 mod sample;
 
-fn main(rt: HostRuntime) {
-    compare::run(rt.stdout());
+use std::io;
+
+fn main(rt: HostRuntime) -> io::Result<()> {
+    compare::run(rt.stdout())
 }

@@ -3,8 +3,8 @@ ghost use Rattle.std.specs.Prelude.{◌<◌};
 
 // A number times an odd constant, modulo 2^32, whose upper bits then change the lower ones.
 fn scrambled(a: u32) -> u32 {
-    let product = ((a as u64) * 0x9E3779B1 % 0x1_0000_0000) as u32;
-    product ^ (product / 32768)
+    let product = a.wrapping_mul(0x9E37_79B1);
+    product ^ (product >> 15)
 }
 
 // A number for packet n. Each draw has a number of its own, so that a draw does not depend on which others were made.
