@@ -1,44 +1,49 @@
 -- Writing report k of a plan: for each way through its refusals what is answered, and the output after it. Past them the
 -- packet's own writer does the rest, since every report of a plan is in range.
 use Prim.Native.Nat.{ℕ, ◌≤◌, ◌<◌}
-use mathlib.Core.Path.{◌≡◌, sym, ◌∙◌}
-use mathlib.Core.Bool.{Bool, true, false, not, ◌||◌}
+use mathlib.Core.Path.{◌≡◌}
+use mathlib.Core.Bool.{true, false, ◌||◌}
 use mathlib.Core.List.{List}
 use native.Mathlib.Omega.{arith}
 use native.Mathlib.Decide.{dec_lt}
 use lib.Dec.{ltb, eqb}
 use lib.ListN.{length}
-use borrow.Author.Tests.{not-true, not-false, eq-eqb, ne_eqb, lt-ltb, le-ltb}
+use borrow.Author.Tests.{eq-eqb, ne_eqb, lt-ltb, le-ltb}
 use Rattle.std.specs.Prelude.{Result, Option, Some, None, Err, SomeIff}
 use Rattle.std.specs.Option.{ok_or}
 use Rattle.model.specs.declared.Codes.{Codes}
 use Rattle.model.specs.declared.Report.{Report}
 use Rattle.model.specs.declared.Plan.{Plan}
 use Rattle.refusals.specs.declared.Refusal.{Refusal}
-use Rattle.refusals.specs.declared.Refusal.TheVariants.{NoSuchNumber}
+use Rattle.refusals.specs.declared.Refusal.TheVariants.{OutOfRange, NoSuchNumber}
 use Rattle.refusals.specs.Refusals.{Told, refused_by, number_of}
 use Rattle.model.specs.Packet.{report_in_range, write}
 use Rattle.model.specs.Plan.{plan_in_range, reports, report_at, write_report}
 use Rattle.theorems.proofs.Sends.{plan_ranges, report_in_range_lem}
 use Rattle.plan_formulas.proofs.InRange.{in_ranges}
 
-module _ (codes : Codes) (p : Plan) (k : ℕ) (output : List ℕ) (b : Bool) (tested : b ≡ plan_in_range codes p) where
-  module _ (h : not b ≡ true) where
-    pub out_of_range : refused_by 12 tt ≡ (write_report codes p k output).answer
+module _ (codes : Codes) (p : Plan) (k : ℕ) (output : List ℕ) where
+  module _ (e : Refusal) (refused : (plan_in_range codes p ≡ false) × (e ≡ OutOfRange)) where
+    pub out_of_range : refused_by (number_of e) tt ≡ (write_report codes p k output).answer
     unfolding write_report
-    out_of_range = rw (← tested, not-true b h)
+    out_of_range = rw (refused.0, refused.1)
 
     pub out_of_range_stays : output ≡ (write_report codes p k output).output
     unfolding write_report
-    out_of_range_stays = rw (← tested, not-true b h)
+    out_of_range_stays = rw refused.0
 
-  module _ (h : not b ≡ false) where
+  -- the plan, its ranges tested
+  module _ (q : Plan) (taken : (plan_in_range codes p ≡ true) × (q ≡ p)) (o : Option Report)
+      (found : SomeIff o ((1 ≤ k) × (k ≤ length (reports q))) (report_at q k)) where
     range : plan_in_range codes p ≡ true
-    range = sym tested ∙ not-false b h
+    range = taken.0
 
-    module _ (o : Option Report) (found : SomeIff o ((1 ≤ k) × (k ≤ length (reports p))) (report_at p k)) (missing : o ≡ None) where
+    of_p : SomeIff o ((1 ≤ k) × (k ≤ length (reports p))) (report_at p k)
+    of_p = rw taken.1 at found
+
+    module _ (missing : o ≡ None) where
       none : (1 ≤ k) × (k ≤ length (reports p)) → ⊥
-      none = rw missing at found
+      none = rw missing at of_p
 
       past : (eqb k 0 || ltb (length (reports p)) k) ≡ true
       past = go (dec_lt 0 k) (dec_lt (length (reports p)) k)
@@ -58,12 +63,12 @@ module _ (codes : Codes) (p : Plan) (k : ℕ) (output : List ℕ) (b : Bool) (te
       unfolding write_report
       no_such_stays = rw (range, past)
 
-    module _ (o : Option Report) (found : SomeIff o ((1 ≤ k) × (k ≤ length (reports p))) (report_at p k)) (r : Report) (is : o ≡ Some r) where
+    module _ (r : Report) (is : o ≡ Some r) where
       there : (1 ≤ k) × (k ≤ length (reports p))
-      there = (rw is at found).0
+      there = (rw is at of_p).0
 
       e : r ≡ report_at p k
-      e = (rw is at found).1
+      e = (rw is at of_p).1
 
       -- past the refusals of the plan the call is one of `write`
       as_packet : write_report codes p k output ≡ write codes r output

@@ -1,42 +1,39 @@
 // The report at a number of a plan.
 #![tactic(auto)]
 
-ghost use Rattle.std.specs.Prelude.{◌+◌, ◌≤◌, ◌<◌, ◌≡◌, true, length, min, SomeIff, MatchOption};
-ghost use Rattle.model.specs.Plan.{lengths_in_range, reports, report_at, write_report};
+ghost use Rattle.std.specs.Prelude.{◌+◌, ◌≤◌, ◌<◌, ◌≡◌, length, min, SomeIff, MatchOption};
+ghost use Rattle.model.specs.Plan.{reports, report_at, write_report};
 ghost use Rattle.refusals.specs.Refusals.{told};
 ghost use Rattle.plan_formulas.specs.Formula.{report_total, place_of, Stands, units_left, has_report, duration_at, ended_at};
 
 use division::divide;
 use model::{Codes, Plan, Report};
-use plan::{in_range, interim_count};
+use plan::InRange;
 use plan_formulas::Place;
 use refusals::Refusal;
 
 // Whether a segment has a report at this place: three stand at its end, after those at the multiples of the period below it.
 #[tactic(auto, using(crate::proofs::Reports::planning))]
-fn has_report(units: u32, period: u32, index: u32) -> bool
-    requires units_bound { units ≤ 65535 }
-    requires le_period { 1 ≤ period }
-    requires period_bound { period ≤ 65535 }
-    ensures { result ≡ has_report period units index }
+fn has_report(p: InRange, units: u32, index: u32) -> bool
+    requires { units ≤ 65535 }
+    ensures { result ≡ has_report p.plan.period units index }
 {
-    units != 0 && (index < 3 || (index <= 65536 && (index - 2) * period < units))
+    units != 0 && (index < 3 || (index <= 65536 && (index - 2) * p.plan.period < units))
 }
 
 // Where report i stands, from 0, or a place where there is none. No segment has more reports than a full one, so a division by their
 // number tells, up to sixteen segments; in an event of one segment there is nothing to divide.
 #[tactic(auto, using(plan_formulas::proofs::Places::placing))]
-fn place_of(p: Plan, i: u32) -> Option<Place>
-    requires { lengths_in_range p ≡ true }
-    ensures { MatchOption result (report_total p ≤ i) (λ at. Stands p i at) }
+fn place_of(p: InRange, i: u32) -> Option<Place>
+    ensures { MatchOption result (report_total p.plan ≤ i) (λ at. Stands p.plan i at) }
 {
-    if p.length <= p.segment_size {
+    if p.plan.length <= p.plan.segment_size {
         return Some(Place {
             segment: 0,
             index: i,
         });
     }
-    let in_full = interim_count(p.segment_size, p.period) + 3;
+    let in_full = p.interim_count(p.plan.segment_size) + 3;
     if in_full * 16 <= i {
         return None;
     }
@@ -48,70 +45,63 @@ fn place_of(p: Plan, i: u32) -> Option<Place>
 }
 
 // The units from a segment's start to the event's end: 0 past it.
-fn units_left(p: Plan, segment: u32) -> u32
-    requires p_value { lengths_in_range p ≡ true }
-    requires segment_bound { segment ≤ 15 }
-    ensures { result ≡ units_left p segment }
+fn units_left(p: InRange, segment: u32) -> u32
+    requires { segment ≤ 15 }
+    ensures { result ≡ units_left p.plan segment }
 {
-    p.length.saturating_sub(segment * p.segment_size)
+    p.plan.length.saturating_sub(segment * p.plan.segment_size)
 }
 
 // The duration a report says: the next multiple of the period, or at the end the segment's length.
 #[tactic(auto, using(crate::proofs::Reports::planning))]
-fn duration_at(units: u32, period: u32, index: u32) -> u32
+fn duration_at(p: InRange, units: u32, index: u32) -> u32
     requires le_units { 1 ≤ units }
-    requires le_period { 1 ≤ period }
-    requires period_bound { period ≤ 65535 }
     requires index_bound { index ≤ 65536 }
-    ensures { result ≡ duration_at period units index }
+    ensures { result ≡ duration_at p.plan.period units index }
 {
-    ((index + 1) * period).min(units)
+    ((index + 1) * p.plan.period).min(units)
 }
 
 // E: on the last two reports of the last segment, which is the one that nothing is left after.
 #[tactic(auto, using(crate::proofs::Reports::planning))]
-fn ended_at(left: u32, size: u32, period: u32, index: u32) -> bool
+fn ended_at(p: InRange, left: u32, index: u32) -> bool
     requires le_left { 1 ≤ left }
-    requires le_period { 1 ≤ period }
-    requires period_bound { period ≤ 65535 }
     requires index_bound { index ≤ 65536 }
-    ensures { result ≡ ended_at size period left index }
+    ensures { result ≡ ended_at p.plan.segment_size p.plan.period left index }
 {
-    left <= size && left <= index * period
+    left <= p.plan.segment_size && left <= index * p.plan.period
 }
 
 // Report i of the plan, from 0: all of it follows from where the report stands.
 #[tactic(auto, using(crate::proofs::Reports::planning))]
-fn planned(p: Plan, i: u32, at: Place, left: u32) -> Report
-    requires p_value { lengths_in_range p ≡ true }
-    requires i_bound { i < report_total p }
-    requires at_value { at ≡ place_of p i }
-    requires left_value { left ≡ units_left p at.segment }
-    ensures { result ≡ report_at p (i + 1) }
+fn planned(p: InRange, i: u32, at: Place, left: u32) -> Report
+    requires i_bound { i < report_total p.plan }
+    requires at_value { at ≡ place_of p.plan i }
+    requires left_value { left ≡ units_left p.plan at.segment }
+    ensures { result ≡ report_at p.plan (i + 1) }
 {
-    let units = left.min(p.segment_size);
+    let plan = p.plan;
     Report {
         marker: i == 0,
-        payload_type: p.payload_type,
-        sequence: p.sequence.wrapping_add((i % 65536) as u16),
-        timestamp: p.start.wrapping_add(at.segment * p.segment_size),
-        ssrc: p.ssrc,
-        code: p.code,
-        ended: ended_at(left, p.segment_size, p.period, at.index),
-        volume: p.volume,
-        duration: duration_at(units, p.period, at.index),
+        payload_type: plan.payload_type,
+        sequence: plan.sequence.wrapping_add((i % 65536) as u16),
+        timestamp: plan.start.wrapping_add(at.segment * plan.segment_size),
+        ssrc: plan.ssrc,
+        code: plan.code,
+        ended: ended_at(p, left, at.index),
+        volume: plan.volume,
+        duration: duration_at(p, left.min(plan.segment_size), at.index),
     }
 }
 
 // Report k of the plan, from 1, if it has so many.
-fn report_at(p: Plan, k: u32) -> Option<Report>
-    requires { lengths_in_range p ≡ true }
-    ensures { SomeIff result ((1 ≤ k) × (k ≤ length (reports p))) (report_at p k) }
+fn report_at(p: InRange, k: u32) -> Option<Report>
+    ensures { SomeIff result ((1 ≤ k) × (k ≤ length (reports p.plan))) (report_at p.plan k) }
 {
     let i = k.checked_sub(1)?;
     let at = place_of(p, i)?;
     let left = units_left(p, at.segment);
-    if !has_report(left.min(p.segment_size), p.period, at.index) {
+    if !has_report(p, left.min(p.plan.segment_size), at.index) {
         return None;
     }
     Some(planned(p, i, at, left))
@@ -122,9 +112,7 @@ pub fn write_report(codes: Codes, p: Plan, k: u32, out: &mut [u8]) -> Result<(),
     ensures result_value { told tt result ≡ (write_report codes p k out.old).answer }
     ensures out_after { out.new ≡ (write_report codes p k out.old).output }
 {
-    if !in_range(codes, p) {
-        return Err(Refusal::OutOfRange);
-    }
+    let p = InRange::of(codes, p)?;
     let r = report_at(p, k).ok_or(Refusal::NoSuchNumber)?;
     writer::write(codes, r, out)
 }
