@@ -10,16 +10,18 @@ ghost use Rattle.grouping.specs.Events.{events_from};
 ghost use Rattle.events.specs.Numbers.{Finds, HeldBy};
 
 use grouping::Held;
-use model::{Event, Head};
+use model::Event;
 use refusals::Refusal;
+use valid::Columns;
 
 // The segments that a table holds, or 16.
-fn held<'a>(head: Head, keys: &'a [u64; 128], heard: &'a [u32; 128]) -> Result<Held<'a>, Refusal>
-    ensures { HeldBy (table_of head keys.now heard.now) result }
+fn held<'a>(table: Columns<'a>) -> Result<Held<'a>, Refusal>
+    ensures { HeldBy (table_of table.entry.head table.entry.keys.now table.entry.heard.now) result }
 {
-    if !valid::is_valid(head, keys, heard) {
+    if !table.is_valid() {
         return Err(Refusal::InvalidTable);
     }
+    let Columns { head, keys, heard } = table;
     Ok(Held::of(keys, heard, head.count))
 }
 
@@ -43,15 +45,11 @@ fn event_place(held: Held, from: usize, k: usize) -> usize
 }
 
 // Tells the event at number k, counted from 1 by start, then code, or refuses with 16 or 13.
-pub fn event_at<'a>(
-    head: Head,
-    keys: &'a [u64; 128],
-    heard: &'a [u32; 128],
-    k: u32,
-) -> Result<Event, Refusal>
-    ensures { told no_event result ≡ event_at (table_of head keys.now heard.now) k }
+pub fn event_at(table: Columns, k: u32) -> Result<Event, Refusal>
+    ensures { told no_event result
+        ≡ event_at (table_of table.entry.head table.entry.keys.now table.entry.heard.now) k }
 {
-    let held = held(head, keys, heard)?;
+    let held = held(table)?;
     let number = k as usize;
     if number == 0 || held.count() < number {
         return Err(Refusal::NoSuchNumber);
@@ -60,15 +58,11 @@ pub fn event_at<'a>(
 }
 
 // How many events there are, or 16, or 15 if there is room for fewer.
-fn count_for<'a>(
-    head: Head,
-    keys: &'a [u64; 128],
-    heard: &'a [u32; 128],
-    room: usize,
-) -> Result<usize, Refusal>
-    ensures { listed_of (told 0 result) ≡ list_answer (table_of head keys.now heard.now) room }
+fn count_for(table: Columns, room: usize) -> Result<usize, Refusal>
+    ensures { listed_of (told 0 result)
+        ≡ list_answer (table_of table.entry.head table.entry.keys.now table.entry.heard.now) room }
 {
-    let count = held(head, keys, heard)?.count();
+    let count = held(table)?.count();
     if room < count {
         return Err(Refusal::ListTooSmall);
     }
@@ -76,16 +70,14 @@ fn count_for<'a>(
 }
 
 // Writes the events into the first lent records and tells how many they are, or refuses with 16 or 15; the other records stay.
-pub fn list<'a>(
-    head: Head,
-    keys: &'a [u64; 128],
-    heard: &'a [u32; 128],
-    out: &mut [Event],
-) -> Result<usize, Refusal>
-    ensures value { listed_of (told 0 result) ≡ (list (table_of head keys.now heard.now) out.old).answer }
-    ensures out_after { out.new ≡ (list (table_of head keys.now heard.now) out.old).records }
+pub fn list(table: Columns, out: &mut [Event]) -> Result<usize, Refusal>
+    ensures value { listed_of (told 0 result)
+        ≡ (list (table_of table.entry.head table.entry.keys.now table.entry.heard.now) out.old).answer }
+    ensures out_after { out.new
+        ≡ (list (table_of table.entry.head table.entry.keys.now table.entry.heard.now) out.old).records }
 {
-    let n = count_for(head, keys, heard, out.len())?;
+    let n = count_for(table, out.len())?;
+    let Columns { head, keys, heard } = table;
     let held = Held::of(keys, heard, head.count);
     let mut from = 0;
     for k in 0..n {

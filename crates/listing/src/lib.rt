@@ -14,6 +14,7 @@ use session::{Session, session_of};
 use std::io::Read;
 use std::os::fd::AsRawFd;
 use std::{fs, io};
+use valid::Columns;
 
 // Reads a file to its end, or as far as there is room.
 fn read<F: Read + Drop>(file: io::Result<F>, text: &mut [u8]) -> io::Result<usize>
@@ -50,7 +51,12 @@ fn list_capture<R: Print + Eprint + AllocGlobal, C: Read + Drop>(
     let mut keys = t.keys;
     let mut heard = t.heard;
     let so_far = pieces::received(t.head, &mut keys, &mut heard, &mut frames)?;
-    printing::listing(rt, so_far, &keys, &heard);
+    let received = Columns {
+        head: so_far.head,
+        keys: &keys,
+        heard: &heard,
+    };
+    printing::listing(rt, so_far, received);
     Ok(())
 }
 

@@ -6,9 +6,10 @@ ghost use Rattle.printing.specs.Output.{HasRoom, Puts};
 
 use arrayvec::ArrayString;
 use itoa::Buffer;
-use model::{Event, Head};
+use model::Event;
 use pieces::{Counts, SoFar};
 use std::io::Error;
+use valid::Columns;
 
 // Room for 128 events of 7 lines and 5 lines more, of 32 bytes each at the most.
 const ROOM: usize = 28_832;
@@ -79,12 +80,12 @@ fn event(text: &mut Text, v: Event)
 
 // The events one by one, and how many they are. The text has room for 128, and a table has no more.
 #[tactic(auto, using(crate::proofs::Laws::printing_events))]
-fn events(text: &mut Text, head: Head, keys: &[u64; 128], heard: &[u32; 128]) -> usize
+fn events(text: &mut Text, table: Columns) -> usize
     requires { HasRoom 28672 text.old }
     ensures { Puts 28672 text.old text.new }
 {
     let mut list = [NO_EVENT; 128];
-    let Ok(n) = events::list(head, keys, heard, &mut list) else {
+    let Ok(n) = events::list(table, &mut list) else {
         return 0;
     };
     for &v in &list[..n] {
@@ -103,20 +104,15 @@ fn counted(text: &mut Text, c: Counts)
 }
 
 // The whole list.
-fn list(c: SoFar, keys: &[u64; 128], heard: &[u32; 128]) -> Text {
+fn list(c: SoFar, table: Columns) -> Text {
     let mut text = Text::new();
-    let n = events(&mut text, c.head, keys, heard);
+    let n = events(&mut text, table);
     line(&mut text, "events=", n as u64);
     counted(&mut text, c.counts);
     line(&mut text, "cut=", u64::from(0 < c.left));
     text
 }
 
-pub fn listing<R: Print + Eprint + AllocGlobal>(
-    rt: &R,
-    c: SoFar,
-    keys: &[u64; 128],
-    heard: &[u32; 128],
-) {
-    print(rt, list(c, keys, heard).as_str());
+pub fn listing<R: Print + Eprint + AllocGlobal>(rt: &R, c: SoFar, table: Columns) {
+    print(rt, list(c, table).as_str());
 }

@@ -23,6 +23,7 @@ use model::{
     Report,
 };
 use results::{CountResult, EventResult, ReadResult};
+use valid::Columns;
 
 // Reads a packet: refusal 1, 2, 3, 4, 17 or 7, 8 if its code is not in the set, or 9, or the report that it carries.
 #[unsafe(no_mangle)]
@@ -97,7 +98,7 @@ pub extern "C" fn twimbor_is_valid_columns<'a>(
 ) -> bool
     ensures { result ≡ valid (table_of head keys.now heard.now) }
 {
-    valid::is_valid(head, keys, heard)
+    Columns { head, keys, heard }.is_valid()
 }
 
 // Receives a packet: its report is taken into the table, or it is refused with 16, 1 to 11 or 17, and the table is as it was. The
@@ -189,7 +190,7 @@ pub extern "C" fn twimbor_event_at_columns<'a>(
 ) -> EventResult
     ensures { result ≡ event_result (event_at (table_of head keys.now heard.now) k) }
 {
-    EventResult::from(events::event_at(head, keys, heard, k))
+    EventResult::from(events::event_at(Columns { head, keys, heard }, k))
 }
 
 // Writes the events into the first lent records and answers how many, or 16 or 15; the other records stay.
@@ -203,5 +204,5 @@ pub extern "C" fn twimbor_list_columns<'a>(
     ensures value { result ≡ (list (table_of head keys.now heard.now) out.old).answer }
     ensures out_after { out.new ≡ (list (table_of head keys.now heard.now) out.old).records }
 {
-    results::listed(events::list(head, keys, heard, out))
+    results::listed(events::list(Columns { head, keys, heard }, out))
 }

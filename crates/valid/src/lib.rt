@@ -97,7 +97,8 @@ fn highest_code<'a>(head: Head, keys: &'a [u64; 128], heard: &'a [u32; 128]) -> 
     Some(highest)
 }
 
-// Whether a table passes the tests.
+// Whether a table passes the tests. The receiving calls, whose columns are lent to be written, ask here: a struct would cost them a
+// copy of the head.
 #[tactic(auto, using(crate::proofs::Laws::testing))]
 pub fn is_valid<'a>(head: Head, keys: &'a [u64; 128], heard: &'a [u32; 128]) -> bool
     ensures { result ≡ valid (table_of head keys.now heard.now) }
@@ -109,4 +110,22 @@ pub fn is_valid<'a>(head: Head, keys: &'a [u64; 128], heard: &'a [u32; 128]) -> 
         return true;
     }
     each_in(head.codes, &keys[..head.count])
+}
+
+// A table whose columns are lent to be read.
+#[derive(Clone, Copy)]
+pub struct Columns<'a> {
+    pub head: Head,
+    pub keys: &'a [u64; 128],
+    pub heard: &'a [u32; 128],
+}
+
+impl Columns<'_> {
+    // Whether it passes the tests.
+    #[inline(always)]
+    pub fn is_valid(self) -> bool
+        ensures { result ≡ valid (table_of self.entry.head self.entry.keys.now self.entry.heard.now) }
+    {
+        is_valid(self.head, self.keys, self.heard)
+    }
 }

@@ -9,7 +9,7 @@ use Rattle.events.proofs.Records.{filled, filled_all}
 use Rattle.events.proofs.list.Goals as goal
 
 pub of-held-requires : goal.of-held-requires
-of-held-requires c = in_ranges _ _ c.args.head (given _ _ _ c.in_ok-n.ensures).0
+of-held-requires c = in_ranges _ _ c.args.table.head (given _ _ _ c.in_ok-n.ensures).0
 
 pub loop-k-init : goal.loop-k-init
 loop-k-init c = record {
@@ -19,13 +19,13 @@ loop-k-init c = record {
 
 pub event_place-place-requires : goal.event_place-place-requires
 event_place-place-requires c =
-    let t = table_of c.args.head c.args.keys.now c.args.heard.now in
+    let t = table_of c.args.table.head c.args.table.keys.now c.args.table.heard.now in
     let all : c.in_ok-n.n ≡ length (events t) = (given _ _ _ c.in_ok-n.ensures).1.0 in
     still_to_come t c.loop-k.k _ (omega (arith, all)) c.loop-k.invariant.to_come
 
 pub loop-k-preserved : goal.loop-k-preserved
 loop-k-preserved c =
-    let t = table_of c.args.head c.args.keys.now c.args.heard.now in
+    let t = table_of c.args.table.head c.args.table.keys.now c.args.table.heard.now in
     let e : c.event_from.result ≡ get_or (events t) c.loop-k.k no_event =
     c.event_from.ensures ∙ c.event_place-place.ensures.event ∙ comes_next t c.loop-k.k _ c.loop-k.invariant.to_come in
     record {
@@ -35,7 +35,7 @@ loop-k-preserved c =
 
 pub returns-clause-out_after : goal.returns-clause-out_after
 returns-clause-out_after c =
-    let t = table_of c.args.head c.args.keys.now c.args.heard.now in
+    let t = table_of c.args.table.head c.args.table.keys.now c.args.table.heard.now in
     let all : c.in_ok-n.n ≡ (list_answer t (length c.args.out.now)).events = ap (λ (a : Listed). a.events) c.in_ok-n.ensures in
     let same : c.loop-k.k ≡ (list_answer t (length c.args.out.now)).events = omega (arith, all, c.loop-k.auto.k-end) in
     c.loop-k.invariant.written ∙ ap (λ (j : ℕ). filled t j c.args.out.now) same ∙ filled_all t c.args.out.now

@@ -8,6 +8,6 @@ use Rattle.events.proofs.list.Given as goal
 
 abbrev pub invariant-loop-k : goal.invariant-loop-k
 invariant-loop-k l = record {
-  written : l.out ≡ filled (table_of l.fn.head l.keys l.heard) l.k l.fn.out;
-  to_come : events_from l.held l.from ≡ drop l.k (events (table_of l.fn.head l.keys l.heard));
+  written : l.out ≡ filled (table_of l.fn.table.head l.fn.table.keys.now l.fn.table.heard.now) l.k l.fn.out;
+  to_come : events_from l.held l.from ≡ drop l.k (events (table_of l.fn.table.head l.fn.table.keys.now l.fn.table.heard.now));
 }
