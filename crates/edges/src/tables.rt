@@ -5,6 +5,7 @@ use model::{Head, Received, Table};
 use segment::key_of;
 use std::io;
 use std::io::Stdout;
+use valid::Columns;
 
 // The table before the first row: it was opened for nothing, and the set has the keys.
 pub fn none() -> Table {
@@ -17,6 +18,14 @@ pub fn none() -> Table {
         codes: codes::keys(),
         count: 0,
     })
+}
+
+fn columns(table: &Table) -> Columns<'_> {
+    Columns {
+        head: table.head,
+        keys: &table.keys,
+        heard: &table.heard,
+    }
 }
 
 // Payload type, SSRC, origin. If they are refused, the table stays.
@@ -143,7 +152,7 @@ pub fn table(to: Stdout, table: &mut Table, mut numbers: Numbers) -> io::Result<
     table.head.both_types = numbers.byte();
     table.head.redundant_type = numbers.byte();
     table.head.count = numbers.number() as usize;
-    let passes = valid::is_valid(table.head, &table.keys, &table.heard);
+    let passes = columns(table).is_valid();
     print!(to; " = {} |", u8::from(passes))?;
     let mut copy = *table;
     received(to, hear(&mut copy, b""))
@@ -168,7 +177,7 @@ pub fn segment(to: Stdout, table: &Table, mut numbers: Numbers) -> io::Result<()
 
 // The event at a number.
 pub fn event(to: Stdout, table: &Table, mut numbers: Numbers) -> io::Result<()> {
-    match events::event_at(table.head, &table.keys, &table.heard, numbers.number()) {
+    match events::event_at(columns(table), numbers.number()) {
         Ok(event) => print!(to;
             " = {} {} {} {} {} {} {} -> 0",
             event.code,

@@ -1,9 +1,10 @@
 // The plans whose numbers are in their ranges, and how many reports they have.
 #![tactic(auto)]
 
-ghost use Rattle.std.specs.Prelude.{◌≡◌, true};
+ghost use Rattle.std.specs.Prelude.{◌≡◌, ◌≤◌, true};
 ghost use Rattle.model.specs.Plan.{lengths_in_range, report_count};
 ghost use Rattle.refusals.specs.Refusals.{told};
+ghost use Rattle.plan_formulas.specs.Formula.{interim_count};
 
 use codes::contains;
 use division::divide;
@@ -26,11 +27,26 @@ fn lengths_in_range(p: Plan) -> bool
         && (1..=65535).contains(&p.period)
 }
 
+// The reports of a segment before its end: one at each multiple of the period below its length. Mostly they are few, and half the
+// steps find them. Each call has a fixed number of steps, which the compiler lays out one after another.
+pub fn interim_count(units: u32, period: u32) -> u32
+    requires le_units { 1 ≤ units }
+    requires units_bound { units ≤ 65535 }
+    requires le_period { 1 ≤ period }
+    requires period_bound { period ≤ 65535 }
+    ensures { result ≡ interim_count period units }
+{
+    if units <= period * 256 {
+        divide(units - 1, period, 8).quotient
+    } else {
+        divide(units - 1, period, 16).quotient
+    }
+}
+
 impl InRange {
-    ghost use Rattle.std.specs.Prelude.{◌≤◌, false, length, MatchResult};
+    ghost use Rattle.std.specs.Prelude.{false, length, MatchResult};
     ghost use Rattle.model.specs.Plan.{plan_in_range, reports};
     ghost use Rattle.refusals.specs.declared.Refusal.TheVariants.{OutOfRange};
-    ghost use Rattle.plan_formulas.specs.Formula.{interim_count};
 
     // The plan, if each of its numbers is in its range, and its code in the set: else refusal 12.
     pub fn of(codes: Codes, plan: Plan) -> Result<Self, Refusal>
@@ -49,19 +65,13 @@ impl InRange {
         }
     }
 
-    // The reports of a segment before its end: one at each multiple of the period below its length. Mostly they are few, and half
-    // the steps find them. Each call has a fixed number of steps, which the compiler lays out one after another.
+    // The reports before the end of a segment of so many units.
     pub fn interim_count(self, units: u32) -> u32
         requires le_units { 1 ≤ units }
         requires units_bound { units ≤ 65535 }
         ensures { result ≡ interim_count self.plan.period units }
     {
-        let period = self.plan.period;
-        if units <= period * 256 {
-            divide(units - 1, period, 8).quotient
-        } else {
-            divide(units - 1, period, 16).quotient
-        }
+        interim_count(units, self.plan.period)
     }
 
     // The plan's reports: those of each full segment, and of the last, which holds at least one unit. Each has three at its end.
