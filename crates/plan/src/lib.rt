@@ -38,15 +38,14 @@ impl InRange {
             (λ p. (plan_in_range codes plan ≡ true) × (p.plan ≡ plan))
             (λ refusal. (plan_in_range codes plan ≡ false) × (refusal ≡ OutOfRange)) }
     {
-        if plan.payload_type <= 127
+        let in_range = plan.payload_type <= 127
             && contains(codes, plan.code)
             && plan.volume <= 63
-            && lengths_in_range(plan)
-        {
-            Ok(InRange { plan })
-        } else {
-            Err(Refusal::OutOfRange)
+            && lengths_in_range(plan);
+        if !in_range {
+            return Err(Refusal::OutOfRange);
         }
+        Ok(InRange { plan })
     }
 
     // The reports of a segment before its end: one at each multiple of the period below its length. Mostly they are few, and half
