@@ -54,15 +54,14 @@ impl InRange {
             (λ p. (plan_in_range codes plan ≡ true) × (p.plan ≡ plan))
             (λ refusal. (plan_in_range codes plan ≡ false) × (refusal ≡ OutOfRange)) }
     {
-        if plan.payload_type <= 127
+        let in_range = plan.payload_type <= 127
             && contains(codes, plan.code)
             && plan.volume <= 63
-            && lengths_in_range(plan)
-        {
-            Ok(InRange { plan })
-        } else {
-            Err(Refusal::OutOfRange)
+            && lengths_in_range(plan);
+        if !in_range {
+            return Err(Refusal::OutOfRange);
         }
+        Ok(InRange { plan })
     }
 
     // The reports before the end of a segment of so many units.
