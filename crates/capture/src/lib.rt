@@ -13,9 +13,9 @@ use refusals::Refusal;
 use std::ops::Range;
 use tally::{Tally, uncounted};
 
-// Receives the whole frames of a buffer into a table that passes the tests.
+// Receives the packets of a buffer's whole frames one after another into a table that passes the tests.
 #[tactic(auto, using(crate::proofs::Laws::capturing))]
-fn receive_frames(table: &mut Tested, frames: &[u8]) -> Captured
+pub fn receive_frames(table: &mut Tested, frames: &[u8]) -> Captured
     ensures { ReceivesAll table.old frames.now result table.new }
 {
     let mut tally = Tally::none_yet(table.head.count);

@@ -10,6 +10,7 @@ mod bad_session;
 use bad_session::BadSession;
 use model::Table;
 use printing::complain;
+use receive::Tested;
 use session::{Session, session_of};
 use std::io::Read;
 use std::os::fd::AsRawFd;
@@ -50,13 +51,14 @@ fn list_capture<R: Print + Eprint + AllocGlobal, C: Read + Drop>(
     let mut frames = capture?;
     let mut keys = t.keys;
     let mut heard = t.heard;
-    let so_far = pieces::received(t.head, &mut keys, &mut heard, &mut frames)?;
-    let received = Columns {
-        head: so_far.head,
-        keys: &keys,
-        heard: &heard,
+    let mut table = Tested {
+        head: t.head,
+        keys: &mut keys,
+        heard: &mut heard,
     };
-    printing::listing(rt, so_far, received);
+    let so_far = pieces::received(&mut table, &mut frames)?;
+    let Tested { head, keys, heard } = table;
+    printing::listing(rt, so_far, Columns { head, keys, heard });
     Ok(())
 }
 

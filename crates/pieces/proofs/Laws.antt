@@ -1,15 +1,16 @@
 -- The input in pieces: each piece received on the table of those before it, and all of them together as one call.
-use Rattle.std.proofs.Common.{◌≡◌, ℕ, ◌+◌, ◌-◌, ◌%◌, ◌^◌, ◌<◌, ◌≤◌, true, List, [], ◌∷◌, ◌++◌, length, get_or, take, drop, sym, ap, ◌∙◌, ⊎_elim, append_assoc, append-nil, arith, length-take-le, drop-drop, take-add, w8, Fits, rules}
+use Rattle.std.proofs.Common.{◌≡◌, ℕ, ◌+◌, ◌-◌, ◌%◌, ◌^◌, ◌<◌, ◌≤◌, true, List, [], ◌∷◌, ◌++◌, length, get_or, take, drop, refl, sym, ap, ◌∙◌, ⊎_elim, append_assoc, append-nil, arith, length-take-le, drop-drop, take-add, w8, Fits, rules}
 use mathlib.Core.List.Memᴰ
 use lib.Seq.{drop-append-le}
-use Rattle.model.specs.declared.Head.{Head}
 use Rattle.model.specs.declared.Table.{Table}
 use Rattle.model.specs.declared.Captured.{Captured}
-use Rattle.model.specs.Table.{table_of, holding, valid}
 use Rattle.model.specs.Fits.{BytesFit}
 use Rattle.model.specs.Capture.{Capturing, receive_capture, together, unused}
 use Rattle.theorems.proofs.Packets.{bytes_fit, fits_parts}
 use Rattle.theorems.proofs.Captures.{captured_within, unused_short, of_empty, in_pieces}
+use Rattle.receive.specs.declared.Tested.{Tested}
+use Rattle.receive.specs.Receives.{in_table, SameColumns}
+use Rattle.capture.specs.Receives.{ReceivesAll}
 use Rattle.pieces.specs.declared.counts.Counts.{Counts}
 use Rattle.pieces.specs.declared.SoFar.{SoFar}
 use Rattle.pieces.specs.Input.{counted, added, GoesOn, joined}
@@ -29,24 +30,23 @@ pub ruleset counting = (rules, all_added)
 fit_first : (n : ℕ) (b : List ℕ) → ((i : ℕ) → Fits w8 (get_or b i 0)) → BytesFit (take n b)
 fit_first n b f = (fits_parts n b (bytes_fit b f)).0
 
-module _ (s : SoFar) (keys heard b : List ℕ) (n : ℕ) (inside : n ≤ length b) (a : Captured)
-    (answer : a ≡ (receive_capture (table_of s.head keys heard) (take n b)).answer) where
+module _ (t : Tested) (s : SoFar) (b : List ℕ) (n : ℕ) (inside : n ≤ length b) (a : Captured) (t' : Tested)
+    (r : ReceivesAll t (take n b) a t') where
   pub used_inside : a.used ≤ n
   used_inside =
-      omega (arith, ap (λ (x : Captured). x.used) answer, captured_within (table_of s.head keys heard) (take n b), length-take-le n b inside)
+      omega (arith, ap (λ (x : Captured). x.used) r.answer, captured_within (in_table t) (take n b), length-take-le n b inside)
 
-  pub went_on : ((i : ℕ) → Fits w8 (get_or b i 0)) → (keys' heard' : List ℕ)
-      → table_of (holding a.count s.head) keys' heard' ≡ (receive_capture (table_of s.head keys heard) (take n b)).table
-      → (c : Counts) → c ≡ added s.counts a → (many : ℕ) (b' : List ℕ) → Keeps a.used n b many b'
-      → GoesOn s keys heard b n (record { head = holding a.count s.head; counts = c; left = many }) keys' heard' b'
-  went_on f keys' heard' table c e many b' k =
+  pub went_on : ((i : ℕ) → Fits w8 (get_or b i 0)) → (c : Counts) → c ≡ added s.counts a → (many : ℕ) (b' : List ℕ) → Keeps a.used n b many b'
+      → GoesOn t s b n (record { counts = c; left = many }) t' b'
+  went_on f c e many b' k =
       record {
         same = k.same;
         bytes = fit_first n b f;
-        table = table;
-        counts = e ∙ ap (added s.counts) answer;
+        table = r.table;
+        lent = r.lent;
+        counts = e ∙ ap (added s.counts) r.answer;
         within = k.within;
-        left = k.front ∙ ap (λ (y : Captured). unused y (take n b)) answer;
+        left = k.front ∙ ap (λ (y : Captured). unused y (take n b)) r.answer;
       }
 
 pub ruleset GoingOn = (rules, used_inside, went_on)
@@ -72,15 +72,15 @@ counted_added a b = λ i. record {
   packed = modulo a.packed b.packed i;
 }
 
--- what has been received of an input, with the buffer as it is
-pub record Stands (t : Table) (input : List ℕ) (s : SoFar) (keys heard b : List ℕ) : Type 0 where
+-- what has been received of an input, with the table and the buffer as they are
+pub record Stands (t : Table) (input : List ℕ) (s : SoFar) (u : Table) (b : List ℕ) : Type 0 where
   pub bytes : BytesFit input
-  pub table : table_of s.head keys heard ≡ (receive_capture t input).table
+  pub table : u ≡ (receive_capture t input).table
   pub counts : s.counts ≡ counted (receive_capture t input).answer
   pub within : s.left ≤ length b
   pub left : take s.left b ≡ unused (receive_capture t input).answer input
 
-module _ (t : Table) (input : List ℕ) (s : SoFar) (keys heard b : List ℕ) (w : Stands t input s keys heard b) where
+module _ (t : Table) (input : List ℕ) (s : SoFar) (u : Tested) (b : List ℕ) (w : Stands t input s (in_table u) b) where
   many_left : s.left ≡ length (unused (receive_capture t input).answer input)
   many_left = sym (length-take-le s.left b w.within) ∙ ap length w.left
 
@@ -102,9 +102,9 @@ module _ (t : Table) (input : List ℕ) (s : SoFar) (keys heard b : List ℕ) (w
         sym (drop-drop second.answer.used first.answer.used (input ++ piece))
         ∙ ap (drop second.answer.used) (drop-append-le first.answer.used input piece (captured_within t input))
 
-    one_more : (s' : SoFar) (keys' heard' b'' : List ℕ) → GoesOn s keys heard b' (s.left + n) s' keys' heard' b'' → Stands t (input ++ piece) s' keys' heard' b''
-    one_more s' keys' heard' b'' g =
-        let called : receive_capture (table_of s.head keys heard) (take (s.left + n) b') ≡ second = λ i. receive_capture (w.table i) (handed i) in
+    one_more : (s' : SoFar) (u' : Tested) (b'' : List ℕ) → GoesOn u s b' (s.left + n) s' u' b'' → Stands t (input ++ piece) s' (in_table u') b''
+    one_more s' u' b'' g =
+        let called : receive_capture (in_table u) (take (s.left + n) b') ≡ second = λ i. receive_capture (w.table i) (handed i) in
         let at_once : together first.answer second ≡ receive_capture t (input ++ piece) = sym (in_pieces t input piece w.bytes) in
         record {
           bytes = fit_both input piece w.bytes (λ x m. rw handed at g.bytes x (Memᴰ.append_right (unused first.answer input) m));
@@ -115,21 +115,21 @@ module _ (t : Table) (input : List ℕ) (s : SoFar) (keys heard b : List ℕ) (w
         }
 
 -- what has been received of the pieces that were handed out so far
-pub record Listens (t : Table) (s : SoFar) (keys heard b : List ℕ) : Type 0 where
-  pub passes : valid t ≡ true
+pub record Listens (t : Tested) (s : SoFar) (t' : Tested) (b : List ℕ) : Type 0 where
   pub long : length b ≡ 131072
   pub pieces : List (List ℕ)
-  pub stands : Stands t (joined pieces) s keys heard b
+  pub lent : SameColumns t t'
+  pub stands : Stands (in_table t) (joined pieces) s (in_table t') b
 
-pub begins : (h : Head) (keys heard b : List ℕ) (none : Counts) → (none.taken ≡ 0) × ((none.refused ≡ 0) × (none.packed ≡ 0))
-    → valid (table_of h keys heard) ≡ true → 131072 ≡ length b → Listens (table_of h keys heard) (record { head = h; counts = none; left = 0 }) keys heard b
+pub begins : (t : Tested) (b : List ℕ) (none : Counts) → (none.taken ≡ 0) × ((none.refused ≡ 0) × (none.packed ≡ 0))
+    → 131072 ≡ length b → Listens t (record { counts = none; left = 0 }) t b
 unfolding joined
-begins h keys heard b none zero v long =
-    let nothing = sym (of_empty (table_of h keys heard) v) in
+begins t b none zero long =
+    let nothing = sym (of_empty (in_table t) t.passes) in
     record {
-      passes = v;
       long = sym long;
       pieces = [];
+      lent = record { keys = refl; heard = refl };
       stands = record {
         bytes = λ x m. absurd (Memᴰ.not-nil m);
         table = λ i. (nothing i).table;
@@ -139,19 +139,19 @@ begins h keys heard b none zero v long =
       };
     }
 
-module _ (t : Table) (s : SoFar) (keys heard b : List ℕ) (w : Listens t s keys heard b) where
+module _ (t : Tested) (s : SoFar) (t' : Tested) (b : List ℕ) (w : Listens t s t' b) where
   -- a part of one frame is left, so there is room to read more
   pub room_left : s.left < length b
-  room_left = omega (arith, many_left t (joined w.pieces) s keys heard b w.stands, w.long, unused_short t (joined w.pieces) w.passes w.stands.bytes)
+  room_left = omega (arith, many_left (in_table t) (joined w.pieces) s t' b w.stands, w.long, unused_short (in_table t) (joined w.pieces) t.passes w.stands.bytes)
 
   module _ (n : ℕ) (b' : List ℕ) (r : Refills s.left b n b') where
-    pub one_came : (s' : SoFar) (keys' heard' b'' : List ℕ) → GoesOn s keys heard b' (s.left + n) s' keys' heard' b'' → Listens t s' keys' heard' b''
-    one_came s' keys' heard' b'' g =
+    pub one_came : (s' : SoFar) (t'' : Tested) (b'' : List ℕ) → GoesOn t' s b' (s.left + n) s' t'' b'' → Listens t s' t'' b''
+    one_came s' t'' b'' g =
         let input = joined w.pieces in
-        let p = piece t input s keys heard b w.stands n b' r in
+        let p = piece (in_table t) input s t' b w.stands n b' r in
         record {
-          passes = w.passes;
           long = g.same ∙ r.same ∙ w.long;
           pieces = w.pieces ++ (p ∷ []);
-          stands = rw (joined_one_more w.pieces p) (one_more t input s keys heard b w.stands n b' r s' keys' heard' b'' g);
+          lent = record { keys = g.lent.keys ∙ w.lent.keys; heard = g.lent.heard ∙ w.lent.heard };
+          stands = rw (joined_one_more w.pieces p) (one_more (in_table t) input s t' b w.stands n b' r s' t'' b'' g);
         }

@@ -1,23 +1,20 @@
 // A capture, read in pieces into a buffer that stays the same, and received piece by piece.
 #![tactic(auto)]
 
-ghost use Rattle.std.specs.Prelude.{◌≡◌, ◌≤◌, true, length, MatchResult};
-ghost use Rattle.model.specs.Table.{table_of, valid};
+ghost use Rattle.std.specs.Prelude.{◌≡◌, ◌≤◌, length, MatchResult};
 ghost use Rattle.pieces.specs.Input.{GoesOn, HasReceived};
 
 mod counts;
 
-use capture::receive_capture;
+use capture::receive_frames;
 pub use counts::Counts;
 use input::{Broken, keep, refill};
-use model::Head;
+use receive::Tested;
 use std::io::{Error, ErrorKind, Read};
 
-// What has been received: the head of the table whose columns are lent, the counts, and how many bytes of the input, at the front of
-// the buffer, are left: a part of one frame.
+// What has been received: the counts, and how many bytes of the input, at the front of the buffer, are left: a part of one frame.
 #[derive(Clone, Copy)]
 pub struct SoFar {
-    pub head: Head,
     pub counts: Counts,
     pub left: usize,
 }
@@ -30,21 +27,12 @@ fn buffer() -> [u8; 131072]
 }
 
 // Receives the buffer's first n bytes, and moves those that were not used to its front.
-fn go_on(
-    so_far: SoFar,
-    keys: &mut [u64; 128],
-    heard: &mut [u32; 128],
-    b: &mut [u8],
-    n: usize,
-) -> SoFar
+fn go_on(table: &mut Tested, so_far: SoFar, b: &mut [u8], n: usize) -> SoFar
     requires { n ≤ length b.old }
-    ensures { GoesOn so_far keys.old heard.old b.old n result keys.new heard.new b.new }
+    ensures { GoesOn table.old so_far b.old n result table.new b.new }
 {
-    let mut head = so_far.head;
-    let got = receive_capture(head, keys, heard, &b[..n]);
-    head.count = got.count;
+    let got = receive_frames(table, &b[..n]);
     SoFar {
-        head,
         counts: so_far.counts.added(got),
         left: keep(b, got.used, n),
     }
@@ -52,18 +40,11 @@ fn go_on(
 
 // Reads a capture up to its end or to a read that fails, and receives its frames. What is left in the buffer after a pass is a part of
 // one frame, so there is always room to read more.
-pub fn received<R: Read>(
-    head: Head,
-    keys: &mut [u64; 128],
-    heard: &mut [u32; 128],
-    input: &mut R,
-) -> Result<SoFar, Broken<SoFar>>
-    requires { valid (table_of head keys.old heard.old) ≡ true }
-    ensures { MatchResult result (λ so_far. HasReceived (table_of head keys.old heard.old) so_far keys.new heard.new) (λ broken. HasReceived (table_of head keys.old heard.old) broken.before keys.new heard.new) }
+pub fn received<R: Read>(table: &mut Tested, input: &mut R) -> Result<SoFar, Broken<SoFar>>
+    ensures { MatchResult result (λ so_far. HasReceived table.old so_far table.new) (λ broken. HasReceived table.old broken.before table.new) }
 {
     let mut b = buffer();
     let mut so_far = SoFar {
-        head,
         counts: Counts::default(),
         left: 0,
     };
@@ -71,7 +52,7 @@ pub fn received<R: Read>(
         let from = so_far.left;
         match refill(input, &mut b, from) {
             Ok(0) => return Ok(so_far),
-            Ok(bytes) => so_far = go_on(so_far, keys, heard, &mut b, from + bytes),
+            Ok(bytes) => so_far = go_on(table, so_far, &mut b, from + bytes),
             Err(why) => return Err(Broken {
                 before: so_far,
                 why,
