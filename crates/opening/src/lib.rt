@@ -4,7 +4,7 @@
 ghost use Rattle.std.specs.Prelude.{◌≡◌};
 ghost use Rattle.refusals.specs.Refusals.{told};
 ghost use Rattle.model.specs.Answers.{opened_of};
-ghost use Rattle.model.specs.Table.{no_table, empty_table, opened, opened_both};
+ghost use Rattle.model.specs.Table.{no_table, one_type, empty_table, opened, opened_both};
 
 use codes::is_empty;
 use model::{Codes, Head, Table};
@@ -21,6 +21,21 @@ pub fn empty(head: Head) -> Table
     }
 }
 
+// The head of a table that holds nothing, for one payload type.
+fn one_type(codes: Codes, payload_type: u8, ssrc: u32, origin: u32) -> Head
+    ensures { result ≡ one_type codes payload_type ssrc origin }
+{
+    Head {
+        payload_type,
+        both_types: 0,
+        redundant_type: 0,
+        ssrc,
+        origin,
+        codes,
+        count: 0,
+    }
+}
+
 // An empty table for the codes of a set, one payload type and SSRC, or refusal 12 if the set is empty or the payload type above 127.
 pub fn open(codes: Codes, payload_type: u32, ssrc: u32, origin: u32) -> Result<Table, Refusal>
     ensures { opened_of (told no_table result) ≡ opened codes payload_type ssrc origin }
@@ -28,15 +43,7 @@ pub fn open(codes: Codes, payload_type: u32, ssrc: u32, origin: u32) -> Result<T
     if is_empty(codes) || 127 < payload_type {
         return Err(Refusal::OutOfRange);
     }
-    Ok(empty(Head {
-        payload_type: payload_type as u8,
-        both_types: 0,
-        redundant_type: 0,
-        ssrc,
-        origin,
-        codes,
-        count: 0,
-    }))
+    Ok(empty(one_type(codes, payload_type as u8, ssrc, origin)))
 }
 
 // An empty table for the codes of a set, the event's payload type, the payload type of redundant packets and one SSRC, or refusal 12
@@ -58,12 +65,8 @@ pub fn open_redundant(
         return Err(Refusal::OutOfRange);
     }
     Ok(empty(Head {
-        payload_type: payload_type as u8,
         both_types: 1,
         redundant_type: redundant_type as u8,
-        ssrc,
-        origin,
-        codes,
-        count: 0,
+        ..one_type(codes, payload_type as u8, ssrc, origin)
     }))
 }
