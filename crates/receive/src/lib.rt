@@ -34,6 +34,7 @@ impl Tested<'_> {
     {
         match said {
             Ok(said) => {
+                // Field by field: a struct copied whole goes through memory.
                 let Received {
                     refusal,
                     is_new,
