@@ -1,25 +1,25 @@
 // The bytes of a row.
-use std::alloc::Global;
-use std::io;
-use std::io::{Error, ErrorKind};
+use crate::row::digit;
 
-fn decode(alloc: Global, word: &str) -> io::Result<Vec<u8>> {
-    hex::decode(alloc, word).map_err(|_| Error::from(ErrorKind::InvalidData))
-}
-
-// The bytes of a text, in hexadecimal or as they are between quotes.
-pub fn bytes_of(alloc: Global, text: &str) -> io::Result<Vec<u8>> {
-    let mut bytes = Vec::new(alloc);
+// The bytes of a text, in hexadecimal or as they are between quotes, with zeros after them; answers how many they are, at most 64.
+pub fn bytes_of(text: &[u8], bytes: &mut [u8; 64]) -> usize {
+    *bytes = [0; 64];
+    let mut digits = 0usize;
     let mut quoted = false;
-    for part in text.split('\'') {
-        if quoted {
-            bytes.extend_from_slice(part.as_bytes())?;
-        } else {
-            for word in part.split_whitespace() {
-                bytes.extend_from_slice(decode(alloc, word)?.as_slice())?;
+    for &c in text {
+        if c == b'\'' {
+            quoted = !quoted;
+        } else if quoted {
+            if let Some(byte) = bytes.get_mut(digits / 2) {
+                *byte = c;
             }
+            digits = digits.saturating_add(2);
+        } else if c != b' ' {
+            if let Some(byte) = bytes.get_mut(digits / 2) {
+                *byte = *byte % 16 * 16 + digit(c);
+            }
+            digits = digits.saturating_add(1);
         }
-        quoted = !quoted;
     }
-    Ok(bytes)
+    64.min(digits / 2)
 }

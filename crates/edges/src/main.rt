@@ -2,8 +2,6 @@
 // what must come. docs/TESTDATA.md says how a row is written and where the answers come from.
 #![tactic(auto)]
 
-ghost use Rattle.std.specs.Prelude.{◌≤◌, length};
-
 mod given;
 mod packets;
 mod row;
@@ -19,64 +17,73 @@ use std::io;
 use std::io::Stdout;
 
 // Makes a row's call, on the table and the bytes lent to it, and prints the answer.
-fn call(to: Stdout, table: &mut Table, row: Row, bytes: &[u8]) -> io::Result<()> {
+fn call(to: Stdout, table: &mut Table, row: &Row, bytes: &[u8]) -> io::Result<()> {
     let codes = table.head.codes;
-    let numbers = row.numbers;
+    let numbers = row.numbers();
     match row.name {
-        "read" => packets::read(to, codes, bytes),
-        "write" => packets::write(to, codes, numbers),
-        "write_redundant" => packets::write_redundant(to, codes, numbers),
-        "count" => packets::count(to, codes, numbers),
-        "report" => packets::report(to, codes, numbers),
-        "text" => sets::read(to, bytes),
-        "set" => sets::set(to, table, numbers),
-        "lent" => sets::lent(to, codes, numbers),
-        "contains" => sets::contains(to, codes, numbers),
-        "walk" => walks::walk(to, bytes),
-        "step" => walks::step(to, numbers, bytes),
-        "open" => tables::open(to, table, numbers),
-        "open_redundant" => tables::open_redundant(to, table, numbers),
-        "receive" => tables::receive(to, table, bytes),
-        "fill" => tables::fill(to, table, numbers),
-        "put" => {
+        b"read" => packets::read(to, codes, bytes),
+        b"write" => packets::write(to, codes, numbers),
+        b"write_re" => packets::write_redundant(to, codes, numbers),
+        b"count" => packets::count(to, codes, numbers),
+        b"report" => packets::report(to, codes, numbers),
+        b"text" => sets::read(to, bytes),
+        b"set" => sets::set(to, table, numbers),
+        b"lent" => sets::lent(to, codes, numbers),
+        b"contains" => sets::contains(to, codes, numbers),
+        b"walk" => walks::walk(to, bytes),
+        b"step" => walks::step(to, numbers, bytes),
+        b"open" => tables::open(to, table, numbers),
+        b"open_red" => tables::open_redundant(to, table, numbers),
+        b"receive" => tables::receive(to, table, bytes),
+        b"fill" => tables::fill(to, table, numbers),
+        b"put" => {
             tables::put(table, numbers);
             Ok(())
         }
-        "table" => tables::table(to, table, numbers),
-        "look" => tables::look(to, *table, numbers),
-        "capture" => tables::capture(to, *table, bytes),
-        "redundant" => tables::redundant(to, *table, numbers, bytes),
-        "segment" => tables::segment(to, table, numbers),
-        "event" => tables::event(to, table, numbers),
-        "session" => texts::session(to, bytes),
-        "frame" => texts::frame(to, numbers, bytes),
+        b"table" => tables::table(to, table, numbers),
+        b"look" => tables::look(to, *table, numbers),
+        b"capture" => tables::capture(to, *table, bytes),
+        b"redundan" => tables::redundant(to, *table, numbers, bytes),
+        b"segment" => tables::segment(to, table, numbers),
+        b"event" => tables::event(to, table, numbers),
+        b"session" => texts::session(to, bytes),
+        b"frame" => texts::frame(to, numbers, bytes),
         _ => Ok(()),
     }
 }
 
-fn main(rt: HostRuntime) -> io::Result<()> {
-    let to = rt.stdout();
-    let alloc = rt.alloc();
-    let mut table = tables::none();
-    let mut bytes = Vec::new(alloc);
-    for line in rt.lines(alloc) {
-        let line = line?;
-        print!(to; "{line}")?;
-        if !line.starts_with('#') {
-            let row = Row::new(line.as_str());
-            let lent = match row.given {
-                Some(text) => {
-                    bytes = given::bytes_of(alloc, text)?;
-                    bytes.as_slice()
-                }
-                None => {
-                    bytes.resize(64, 0)?;
-                    &bytes[..row.numbers.clone()?.size(64)]
-                }
-            };
-            call(to, &mut table, row, lent)?;
-        }
-        println!(to)?;
+// A row makes its call on the bytes that it gives after a colon, or on so many of those before as its first number says.
+fn run(to: Stdout, table: &mut Table, bytes: &mut [u8; 64], line: &[u8]) -> io::Result<()> {
+    to.write_all(line)?;
+    let row = Row::new(line);
+    if row.name != b"#".as_slice() {
+        let lent = match row.given {
+            Some(text) => given::bytes_of(text, bytes),
+            None => row.numbers().size(),
+        };
+        call(to, table, &row, bytes.get(..lent).unwrap_or(&[]))?;
     }
-    Ok(())
+    println!(to)
+}
+
+fn main(rt: HostRuntime) {
+    let mut text = [0; 65536];
+    // A text that cannot be read to its end is read as far as it can be, and what cannot be written is left out.
+    let read = match input::read_full(&mut rt.stdin(), &mut text) {
+        Ok(bytes) => bytes,
+        Err(broken) => broken.before,
+    };
+    let text = text.get(..read).unwrap_or(&[]);
+    if text.is_empty() {
+        return;
+    }
+    let mut table = tables::none();
+    let mut bytes = [0; 64];
+    for line in text
+        .strip_suffix(b"\n")
+        .unwrap_or(text)
+        .split(|&b| b == b'\n')
+    {
+        let _ = run(rt.stdout(), &mut table, &mut bytes, line);
+    }
 }

@@ -85,7 +85,11 @@ fn written(to: Stdout, answer: Result<(), Refusal>, out: &[u8]) -> io::Result<()
 // How many bytes of 17 are lent, and a report.
 pub fn write(to: Stdout, codes: Codes, mut numbers: Numbers) -> io::Result<()> {
     let mut out = [0xEE; 17];
-    let room = &mut out[..numbers.size(17)];
+    let room = numbers.size();
+    if 17 < room {
+        return Ok(());
+    }
+    let room = &mut out[..room];
     let answer = writer::write(codes, report_of(&mut numbers), room);
     written(to, answer, &out)
 }
@@ -93,7 +97,11 @@ pub fn write(to: Stdout, codes: Codes, mut numbers: Numbers) -> io::Result<()> {
 // How many bytes of 17 are lent, a plan, and the report's number.
 pub fn report(to: Stdout, codes: Codes, mut numbers: Numbers) -> io::Result<()> {
     let mut out = [0xEE; 17];
-    let room = &mut out[..numbers.size(17)];
+    let room = numbers.size();
+    if 17 < room {
+        return Ok(());
+    }
+    let room = &mut out[..room];
     let plan = plan_of(&mut numbers);
     let answer = plan_report::write_report(codes, plan, numbers.number(), room);
     written(to, answer, &out)
@@ -102,7 +110,11 @@ pub fn report(to: Stdout, codes: Codes, mut numbers: Numbers) -> io::Result<()> 
 // How many bytes of 34 are lent, a report, the redundant payload type, how many older reports, and two of them.
 pub fn write_redundant(to: Stdout, codes: Codes, mut numbers: Numbers) -> io::Result<()> {
     let mut out = [0xEE; 34];
-    let room = &mut out[..numbers.size(34)];
+    let room = numbers.size();
+    if 34 < room {
+        return Ok(());
+    }
+    let room = &mut out[..room];
     let answer = block_writer::write_redundant(
         codes,
         report_of(&mut numbers),

@@ -44,7 +44,11 @@ pub fn set(to: Stdout, table: &mut Table, mut numbers: Numbers) -> io::Result<()
 // A set written with the first bytes of 12 lent: all 12, and how many the text has.
 pub fn lent(to: Stdout, codes: Codes, mut numbers: Numbers) -> io::Result<()> {
     let mut out = [b'#'; 12];
-    let room = &mut out[..numbers.size(12)];
+    let room = numbers.size();
+    if 12 < room {
+        return Ok(());
+    }
+    let room = &mut out[..room];
     let answer = code_writer::write_codes(codes, room);
     print!(to; " ")?;
     to.write_all(&out)?;

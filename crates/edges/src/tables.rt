@@ -160,7 +160,7 @@ pub fn table(to: Stdout, table: &mut Table, mut numbers: Numbers) -> io::Result<
 
 // Offset, code, duration, volume, quietest, E and M of the segment at a place.
 pub fn segment(to: Stdout, table: &Table, mut numbers: Numbers) -> io::Result<()> {
-    let place = numbers.size(127);
+    let place = numbers.size();
     let key = table.keys[place];
     let told = table.heard[place];
     print!(to;
@@ -205,7 +205,11 @@ pub fn capture(to: Stdout, mut table: Table, frames: &[u8]) -> io::Result<()> {
 // entries, and the numbers in the first two places.
 pub fn redundant(to: Stdout, table: Table, mut numbers: Numbers, packet: &[u8]) -> io::Result<()> {
     let mut entries = [9; 4];
-    let room = &mut entries[..numbers.size(4)];
+    let room = numbers.size();
+    if 4 < room {
+        return Ok(());
+    }
+    let room = &mut entries[..room];
     let mut keys = table.keys;
     let mut heard = table.heard;
     let got = redundant::receive_redundant(table.head, &mut keys, &mut heard, packet, room);

@@ -29,7 +29,11 @@ pub fn session(to: Stdout, text: &[u8]) -> io::Result<()> {
 
 // The frame at a place.
 pub fn frame(to: Stdout, mut numbers: Numbers, frames: &[u8]) -> io::Result<()> {
-    match frame_at(frames, numbers.size(frames.len())) {
+    let at = numbers.size();
+    if frames.len() < at {
+        return Ok(());
+    }
+    match frame_at(frames, at) {
         Some(frame) => print!(to; " = {} {}", frame.start, frame.end),
         None => print!(to; " = none"),
     }

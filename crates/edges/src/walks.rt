@@ -7,11 +7,11 @@ use std::io;
 use std::io::Stdout;
 use walker::Walker;
 
-// All blocks, and whether the walk starts.
+// The first eight blocks, and whether the walk starts.
 pub fn walk(to: Stdout, packet: &[u8]) -> io::Result<()> {
     match Walker::start(packet) {
         Ok(walker) => {
-            for part in walker {
+            for part in walker.take(8) {
                 let block = part.block;
                 print!(to;
                     " | {} {} {} {} {}",

@@ -6,14 +6,16 @@ use mathlib.Core.List.{List}
 use borrow.Author.Rules.{rules}
 use borrow.Author.Tests.{eq-eqb, ne_eqb}
 use lib.Dec.{eqb}
-use Rattle.refusals.specs.Refusals.{Told, none, refused_by}
+use Rattle.refusals.specs.Refusals.{Told, none, answered, refused_by}
 use Rattle.model.specs.declared.Head.{Head}
+use Rattle.model.specs.declared.Received.{Received}
 use Rattle.model.specs.Packet.{header_refusal, payload, marker, payload_type, timestamp, ssrc}
-use Rattle.model.specs.Receive.{arrival_in, refusal_for}
+use Rattle.model.specs.Receive.{arrival_in, refusal_for, refused_with}
 use Rattle.header.specs.Reads.{Refuses}
+use Rattle.table.specs.Columns.{Takes}
 use Rattle.hearing.specs.declared.Heard.{Heard}
 use Rattle.hearing.specs.Sayings.{arrival, nothing_heard, hearing_of}
-use Rattle.receive.specs.Steps.{hearing_in}
+use Rattle.receive.specs.Steps.{hearing_in, TakesHeard}
 
 -- THE HEADER OF A PACKET THAT IS THE TABLE'S
 
@@ -50,5 +52,16 @@ module _ (h : Head) (bs : List ℕ) where
       → (said : Told Heard) → said ≡ hearing_of h (arrival time m p) → said ≡ hearing_in h bs
   unfolding hearing_in arrival_in
   heard_it unrefused time is_time m is_m p is_p said x = x ∙ rw (is_p, is_time, is_m, unrefused)
+
+-- THE TABLE
+
+module _ (h : Head) (keys heard : List ℕ) (said : Told Heard) where
+  pub took : (v : Heard) → answered v ≡ said → (a : Received) (keys' heard' : List ℕ) → Takes h keys heard v.key v.told a keys' heard'
+      → TakesHeard h keys heard said a keys' heard'
+  took v x a keys' heard' e = rw (← x) (record { answer = e.answer; table = e.table })
+
+  pub not_heard : (k : ℕ) → refused_by k nothing_heard ≡ said → (a : Received) → a ≡ refused_with k h.count 0
+      → TakesHeard h keys heard said a keys heard
+  not_heard k x a e = rw (← x) (record { answer = e; table = rw e })
 
 pub ruleset steps = (rules, not_read, other_type, other_source, for_it, not_for_it, heard_it)

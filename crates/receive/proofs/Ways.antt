@@ -1,9 +1,8 @@
 -- The receiving calls: 16, and the steps together, as laws over a head, two columns and a packet's bytes.
-use Prim.Native.Nat.{ℕ}
+use Prim.Native.Nat.{ℕ, ◌≤◌, ◌<◌}
 use mathlib.Core.Path.{◌≡◌, refl, sym, ◌∙◌, ap}
 use mathlib.Core.Bool.{Bool, true, false, not, cond}
 use mathlib.Core.List.{List}
-use Rattle.std.specs.Prelude.{Result}
 use native.Mathlib.Omega.{arith}
 use borrow.Author.Rules.{rules}
 use borrow.Author.Tests.{eqb-true, not-true, not-false}
@@ -14,7 +13,22 @@ use Rattle.model.specs.declared.Received.{Received}
 use Rattle.model.specs.Packet.{payload_refusal, code}
 use Rattle.model.specs.Search.{search}
 use Rattle.model.specs.Table.{key_of, heard_of, segment_of, held, table_of, holding, valid, no_room}
-use Rattle.model.specs.Receive.{Arrival, heard_by, unheard, hear_refusal, probes, refused_with, refusing, taken, hear, arrival_in, refusal_for, packet_refusal, receive}
+use Rattle.model.specs.Receive.{
+  Arrival,
+  heard_by,
+  unheard,
+  hear_refusal,
+  probes,
+  refused_with,
+  Receiving,
+  refusing,
+  taken,
+  hear,
+  arrival_in,
+  refusal_for,
+  packet_refusal,
+  receive,
+}
 use Rattle.model.specs.Fits.{BytesFit}
 use Rattle.refusals.proofs.Tests.{both_none}
 use Rattle.theorems.proofs.Sets.{in_below}
@@ -24,13 +38,13 @@ use Rattle.theorems.proofs.Looks.{hears_with_8, looks_at_8}
 use Rattle.theorems.proofs.Entries.{hears_below_256, receives_below_256}
 use Rattle.theorems.proofs.Runs.{PayloadFits, packet_report_fits, hear_stays_valid, stays_valid}
 use Rattle.table.specs.Columns.{taken_into}
-use Rattle.refusals.specs.declared.Refusal.{Refusal}
-use Rattle.refusals.specs.Refusals.{told, refused_by}
+use Rattle.refusals.specs.Refusals.{Told, refused_by}
 use Rattle.hearing.specs.declared.Heard.{Heard}
 use Rattle.hearing.specs.Sayings.{arrival, nothing_heard, hearing_of}
 use Rattle.receive.specs.declared.Tested.{Tested}
-use Rattle.receive.specs.Steps.{hearing_in, taken_heard}
-use Rattle.receive.specs.Receives.{in_table, saying, Allowed, Does, Hears, Receives}
+use Rattle.receive.specs.Steps.{hearing_in, taken_heard, TakesHeard}
+use Rattle.receive.specs.Receives.{Does}
+use Rattle.receive.proofs.Stepwise.{took, not_heard}
 
 pub passed : (t : Table) (b : Bool) → b ≡ valid t → not b ≡ false → valid t ≡ true
 passed t b is ok = sym is ∙ not-false b ok
@@ -76,21 +90,31 @@ module _ (t : Table) (a : Arrival) (fit : PayloadFits a) where
       go false e = rw e (refuses_it e)
       go true e = let none = eqb-true refusal 0 e in rw e (ap (taken_into t) (same_report none) ∙ sym (to_the_table none))
 
--- one report heard, of what was said in it
-module _ (l : Tested) (v : valid (in_table l) ≡ true) (time : ℕ) (m : Bool) (p : List ℕ) (fit : BytesFit p)
-    (said : Result Heard Refusal) (stage : told nothing_heard said ≡ hearing_of l.head (arrival time m p)) where
-  heard_is : saying l said ≡ hear (in_table l) (arrival time m p)
-  heard_is = ap (taken_heard (in_table l)) stage ∙ said_and_taken (in_table l) (arrival time m p) fit
+-- what was said, taken into columns, as the model has it
+pub record Does_in (r : Receiving) (h : Head) (a : Received) (keys' heard' : List ℕ) : Type 0 where
+  pub answer : a ≡ r.answer
+  pub table : table_of (holding a.count h) keys' heard' ≡ r.table
+  pub passes : valid (table_of (holding a.count h) keys' heard') ≡ true
+  pub bounded : a.probes ≤ 8
+  pub small : a.refusal < 256
 
-  pub may_hear : Allowed (saying l said)
-  may_hear = rw heard_is (record {
-    passes = hear_stays_valid (in_table l) (arrival time m p) v fit;
-    bounded = hears_with_8 (in_table l) (arrival time m p) v;
-    small = hears_below_256 (in_table l) (arrival time m p);
-  })
+does : (h : Head) (keys heard : List ℕ) (said : Told Heard) (r : Receiving) (a : Received) (keys' heard' : List ℕ)
+    → taken_heard (table_of h keys heard) said ≡ r → TakesHeard h keys heard said a keys' heard'
+    → valid r.table ≡ true → r.answer.probes ≤ 8 → r.answer.refusal < 256
+    → Does_in r h a keys' heard'
+does h keys heard said r a keys' heard' both e v few small =
+    let answer : a ≡ r.answer = e.answer ∙ (λ i. (both i).answer) in
+    let table : table_of (holding a.count h) keys' heard' ≡ r.table = e.table ∙ (λ i. (both i).table) in
+    record { answer = answer; table = table; passes = ap valid table ∙ v; bounded = rw answer few; small = rw answer small }
 
-  pub hears_it : (a : Received) (l' : Tested) → Does (saying l said) l a l' → Hears l time m p a l'
-  hears_it a l' d = rw heard_is at d
+module _ (h : Head) (keys heard : List ℕ) (v : valid (table_of h keys heard) ≡ true) (time : ℕ) (m : Bool) (p : List ℕ) (fit : BytesFit p) where
+  pub hears_it : (said : Told Heard) → said ≡ hearing_of h (arrival time m p) → (a : Received) (keys' heard' : List ℕ)
+      → TakesHeard h keys heard said a keys' heard' → Does_in (hear (table_of h keys heard) (arrival time m p)) h a keys' heard'
+  hears_it said stage a keys' heard' e =
+      let t = table_of h keys heard in
+      does h keys heard said (hear t (arrival time m p)) a keys' heard'
+      (ap (taken_heard t) stage ∙ said_and_taken t (arrival time m p) fit) e
+      (hear_stays_valid t (arrival time m p) v fit) (hears_with_8 t (arrival time m p) v) (hears_below_256 t (arrival time m p))
 
 -- A PACKET
 
@@ -109,20 +133,11 @@ module _ (h : Head) (keys heard bs : List ℕ) (v : valid (table_of h keys heard
       go false = refl
       go true = said_and_taken t (arrival_in bs) (packet_report_fits bs fit)
 
-module _ (l : Tested) (v : valid (in_table l) ≡ true) (bs : List ℕ) (fit : BytesFit bs)
-    (said : Result Heard Refusal) (stage : told nothing_heard said ≡ hearing_in l.head bs) where
-  received_is : saying l said ≡ receive (in_table l) bs
-  received_is = ap (taken_heard (in_table l)) stage ∙ step l.head l.keys.now l.heard.now bs v fit
-
-  pub may_receive : Allowed (saying l said)
-  may_receive = rw received_is (record {
-    passes = stays_valid (in_table l) bs v fit;
-    bounded = looks_at_8 (in_table l) bs;
-    small = receives_below_256 (in_table l) bs;
-  })
-
-  pub receives : (a : Received) (l' : Tested) → Does (saying l said) l a l' → Receives l bs a l'
-  receives a l' d = rw received_is at d
+  pub receives : (said : Told Heard) → said ≡ hearing_in h bs → (a : Received) (keys' heard' : List ℕ) → TakesHeard h keys heard said a keys' heard'
+      → Does_in (receive t bs) h a keys' heard'
+  receives said stage a keys' heard' e =
+      does h keys heard said (receive t bs) a keys' heard' (ap (taken_heard t) stage ∙ step) e (stays_valid t bs v fit) (looks_at_8 t bs)
+      (receives_below_256 t bs)
 
 -- THE TESTS FIRST
 
@@ -138,4 +153,26 @@ module _ (h : Head) (keys heard bs : List ℕ) (b : Bool) (is : b ≡ valid (tab
     pub table_stays : table_of (holding a.count h) keys heard ≡ (receive (table_of h keys heard) bs).table
     table_stays = (λ i. table_of (holding (e i).count h) keys heard) ∙ (λ i. (untested i).table)
 
-pub ruleset ways = (rules, passed, bytes_fit, refused_first, table_stays)
+-- THE TABLE THAT IS LENT
+
+module _ (r : Receiving) (t : Tested) (a : Received) where
+  -- the same columns, with what was done in them
+  pub as_lent : (keys' heard' : List ℕ) → Does_in r t.head a keys' heard' → (t' : Tested)
+      → t'.head ≡ holding a.count t.head → t'.keys.now ≡ keys' → t'.heard.now ≡ heard'
+      → t'.keys.ghost_name ≡ t.keys.ghost_name → t'.heard.ghost_name ≡ t.heard.ghost_name
+      → Does r t a t'
+  as_lent keys' heard' d t' head keys heard k w = record {
+    answer = d.answer;
+    table = (λ i. table_of (head i) (keys i) (heard i)) ∙ d.table;
+    head = head;
+    lent = record { keys = k; heard = w };
+    bounded = d.bounded;
+    small = d.small;
+  }
+
+  -- nothing was done
+  pub as_it_was : Does_in r t.head a t.keys.now t.heard.now → (n : ℕ) → a ≡ refused_with n t.head.count 0 → Does r t a t
+  as_it_was d n e =
+      as_lent t.keys.now t.heard.now d t (λ i. holding (sym e i).count t.head) refl refl refl refl
+
+pub ruleset ways = (rules, passed, took, not_heard, bytes_fit, hears_it, receives, refused_first, table_stays)

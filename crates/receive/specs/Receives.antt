@@ -1,14 +1,10 @@
 -- What a receiving call does to a table that passes the tests, and what hearing one report does.
-use Rattle.std.specs.Prelude.{ℕ, ◌≤◌, ◌<◌, ◌≡◌, Bool, true, List, Result}
+use Rattle.std.specs.Prelude.{ℕ, ◌≤◌, ◌<◌, ◌≡◌, Bool, List}
 use Rattle.model.specs.declared.Table.{Table}
 use Rattle.model.specs.declared.Received.{Received}
-use Rattle.model.specs.Table.{table_of, holding, valid}
+use Rattle.model.specs.Table.{table_of, holding}
 use Rattle.model.specs.Receive.{Receiving, hear, receive}
-use Rattle.refusals.specs.declared.Refusal.{Refusal}
-use Rattle.refusals.specs.Refusals.{told}
-use Rattle.hearing.specs.declared.Heard.{Heard}
-use Rattle.hearing.specs.Sayings.{arrival, nothing_heard}
-use Rattle.receive.specs.Steps.{taken_heard}
+use Rattle.hearing.specs.Sayings.{arrival}
 use Rattle.receive.specs.declared.Tested.{Tested}
 
 -- the table in the columns
@@ -36,13 +32,3 @@ Receives t bs = Does (receive (in_table t) bs) t
 -- a payload at its timestamp, marked or not
 abbrev pub Hears : Tested → ℕ → Bool → List ℕ → Received → Tested → Type 0
 Hears t timestamp marked p = Does (hear (in_table t) (arrival timestamp marked p)) t
-
--- what was said, taken or refused
-abbrev pub saying : Tested → Result Heard Refusal → Receiving
-saying t said = taken_heard (in_table t) (told nothing_heard said)
-
--- it leaves a table that passes, and is within the bounds
-pub record Allowed (r : Receiving) : Type 0 where
-  pub passes : valid r.table ≡ true
-  pub bounded : r.answer.probes ≤ 8
-  pub small : r.answer.refusal < 256

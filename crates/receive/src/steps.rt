@@ -11,7 +11,8 @@ use hearing::{Heard, hear};
 use model::Head;
 use refusals::Refusal;
 
-// Reads the header of a packet as far as its payload's place, and refuses one that is not the table's: 1 to 6.
+// Reads the header of a packet as far as its payload's place, and refuses one that is not the table's: 1 to 6. The call for both types has a
+// step like it: one over a closure would have to say the refusals once more.
 #[tactic(auto, using(crate::proofs::Stepwise::steps))]
 pub(crate) fn header_for<'a>(head: Head, packet: &'a [u8]) -> Result<Header<'a>, Refusal>
     ensures { ReadsUnless (refusal_for head packet.now) packet.entry result }

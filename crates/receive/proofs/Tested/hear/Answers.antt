@@ -1,8 +1,21 @@
-use Rattle.receive.proofs.Ways.{ways, may_hear, hears_it}
+use Rattle.std.proofs.Common.{refl}
+use Rattle.model.specs.Receive.{hear}
+use Rattle.hearing.specs.Sayings.{arrival}
+use Rattle.receive.specs.Receives.{in_table}
+use Rattle.receive.proofs.Ways.{ways, Does_in, as_lent, as_it_was}
 use Rattle.receive.proofs.Tested.hear.Goals as goal
 
-pub take_said-requires : goal.take_said-requires
-take_said-requires c = may_hear c.args.self.now (search ways) _ _ _ (search ways) c.hear.result c.hear.ensures
+pub invariant_of-self : goal.invariant_of-self
+invariant_of-self c =
+    let d : Does_in (hear (in_table c.args.self.now) (arrival c.args.timestamp c.args.marked c.args.payload.now)) c.args.self.now.head c.take-refusal.result c.take-refusal.new.keys c.take-refusal.new.heard = search (ways, c.in-Ok.ensures) in
+    record { passes = d.passes }
 
-pub returns : goal.returns
-returns c = hears_it c.args.self.now (search ways) _ _ _ (search ways) c.hear.result c.hear.ensures _ _ c.take_said.ensures
+pub returns-in-Ok : goal.returns-in-Ok
+returns-in-Ok c =
+    let d : Does_in (hear (in_table c.args.self.now) (arrival c.args.timestamp c.args.marked c.args.payload.now)) c.args.self.now.head c.take-refusal.result c.take-refusal.new.keys c.take-refusal.new.heard = search (ways, c.in-Ok.ensures) in
+    as_lent _ _ _ _ _ d _ refl refl refl refl refl
+
+pub returns-in-Err : goal.returns-in-Err
+returns-in-Err c =
+    let d : Does_in (hear (in_table c.args.self.now) (arrival c.args.timestamp c.args.marked c.args.payload.now)) c.args.self.now.head c.refused.result c.args.self.now.keys.now c.args.self.now.heard.now = search (ways, c.in-Err.ensures) in
+    as_it_was _ _ _ d _ c.refused.ensures
