@@ -84,7 +84,7 @@ fn planned(p: InRange, i: u32, at: Place, left: u32) -> Report
     Report {
         marker: i == 0,
         payload_type: plan.payload_type,
-        sequence: plan.sequence.wrapping_add((i % 65536) as u16),
+        sequence: plan.sequence.wrapping_add((i & 0xffff) as u16),
         timestamp: plan.start.wrapping_add(at.segment * plan.segment_size),
         ssrc: plan.ssrc,
         code: plan.code,

@@ -1,4 +1,5 @@
 -- Each field is the formula's (Laws, `report_at_lem`).
+use lib.Bits.{and_mask}
 use Rattle.plan_report.proofs.Reports.{planning}
 use Rattle.plan_report.proofs.planned.Goals as goal
 
@@ -9,4 +10,4 @@ pub duration_at-requires-clause-le_units : goal.duration_at-requires-clause-le_u
 duration_at-requires-clause-le_units c = search planning
 
 pub returns : goal.returns
-returns c = search planning
+returns c = rw (and_mask c.args.i 16) (search planning)
