@@ -1,8 +1,12 @@
 // The bytes of a row.
+ghost use Rattle.std.specs.Prelude.{◌≤◌};
+
 use crate::row::digit;
 
 // The bytes of a text, in hexadecimal or as they are between quotes, with zeros after them; answers how many they are, at most 64.
-pub fn bytes_of(text: &[u8], bytes: &mut [u8; 64]) -> usize {
+pub fn bytes_of(text: &[u8], bytes: &mut [u8; 64]) -> usize
+    ensures { result ≤ 64 }
+{
     *bytes = [0; 64];
     let mut digits = 0usize;
     let mut quoted = false;

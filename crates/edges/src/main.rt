@@ -53,17 +53,17 @@ fn call(to: Stdout, table: &mut Table, row: &Row, bytes: &[u8]) -> io::Result<()
 }
 
 // A row makes its call on the bytes that it gives after a colon, or on so many of those before as its first number says.
-fn run(to: Stdout, table: &mut Table, bytes: &mut [u8; 64], line: &[u8]) -> io::Result<()> {
-    to.write_all(line)?;
+fn run(to: Stdout, table: &mut Table, bytes: &mut [u8; 64], line: &[u8]) {
+    let _ = to.write_all(line);
     let row = Row::new(line);
     if row.name != b"#".as_slice() {
         let lent = match row.given {
             Some(text) => given::bytes_of(text, bytes),
             None => row.numbers().size(),
         };
-        call(to, table, &row, bytes.get(..lent).unwrap_or(&[]))?;
+        let _ = call(to, table, &row, bytes.get(..lent).unwrap_or(&[]));
     }
-    println!(to)
+    let _ = println!(to);
 }
 
 fn main(rt: HostRuntime) {
@@ -84,6 +84,6 @@ fn main(rt: HostRuntime) {
         .unwrap_or(text)
         .split(|&b| b == b'\n')
     {
-        let _ = run(rt.stdout(), &mut table, &mut bytes, line);
+        run(rt.stdout(), &mut table, &mut bytes, line);
     }
 }

@@ -21,7 +21,7 @@ fn has_report(p: InRange, units: u32, index: u32) -> bool
     units != 0 && (index < 3 || (index <= 65536 && (index - 2) * p.plan.period < units))
 }
 
-// Where report i stands, from 0, or a place where there is none. No segment has more reports than a full one, so a division by their
+// Where report i stands, from 0, if there is such a place. No segment has more reports than a full one, so a division by their
 // number tells, up to sixteen segments; in an event of one segment there is nothing to divide.
 #[tactic(auto, using(plan_formulas::proofs::Places::placing))]
 fn place_of(p: InRange, i: u32) -> Option<Place>

@@ -7,8 +7,7 @@ mod random;
 mod reader;
 mod sample;
 
-use std::io;
-
-fn main(rt: HostRuntime) -> io::Result<()> {
-    compare::run(rt.stdout())
+fn main(rt: HostRuntime) {
+    // What cannot be written is left out.
+    let _ = compare::run(rt.stdout());
 }
