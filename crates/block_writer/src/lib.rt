@@ -38,8 +38,8 @@ fn put_blocks(
     put_older(r, second, 1, n, out);
 }
 
-// Writes a report and the older ones that are counted (C hands over two and a count), in the order given and before it, as one redundant packet at the start of the
-// output, or refuses with 12, also for a code outside the set, or 14, and leaves the output as it is.
+// Writes a report and the older ones that are counted (C hands over two and a count), in the order given and before it, as one redundant
+// packet at the start of the output, or refuses with 12, also for a code outside the set, or 14, and leaves the output as it is.
 #[tactic(auto, using(crate::proofs::WritesBlocks::writing_blocks))]
 pub fn write_redundant(
     codes: Codes,
