@@ -45,11 +45,12 @@ fn split_at_first(text: &[u8], byte: u8) -> (&[u8], Option<&[u8]>) {
 impl<'a> Row<'a> {
     pub fn new(line: &'a [u8]) -> Self {
         let (call, given) = split_at_first(line, b':');
-        let (mut name, words) = split_at_first(call, b' ');
+        let (name, words) = split_at_first(call, b' ');
         // zeros ahead of a name are passed over
-        while let Some(rest) = name.strip_prefix(b"\0") {
-            name = rest;
-        }
+        let name = match name.iter().position(|&b| b != 0) {
+            Some(at) => &name[at..],
+            None => &[],
+        };
         let mut numbers = [0; 22];
         if let Some(words) = words {
             for (i, word) in words.split(|&b| b == b' ').enumerate() {
