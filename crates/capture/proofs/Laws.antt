@@ -21,7 +21,7 @@ use Rattle.theorems.proofs.Captures.{all_if_valid, none_if_invalid, nothing_more
 use Rattle.receive.specs.declared.Tested.{Tested}
 use Rattle.receive.specs.Receives.{in_table, SameColumns, Receives}
 use Rattle.std.specs.Prelude.{Some, None}
-use Rattle.std.specs.declared.ops.Range.{Range}
+use Rattle.framing.specs.declared.Frame.{Frame}
 use Rattle.framing.specs.Frame.{frame_at}
 use Rattle.framing.proofs.Laws.{WholeAt, whole_there, no_whole_there}
 use Rattle.tally.specs.declared.Tally.{Tally}
@@ -121,7 +121,7 @@ module _ (t : Tested) (bs : List ℕ) (t' : Tested) (c : Tally) (w : Progress t 
       let all : receive_capture (in_table t) bs ≡ receiving_all (in_table t) bs = all_if_valid (in_table t) bs t.passes in
       rw is (record { answer = λ i. ((x ∙ sym all) i).answer; table = λ i. ((x ∙ sym all) i).table; head = w.held; lent = w.lent })
 
-  module _ (p : Range ℕ) (e : Some p ≡ frame_at bs c.used) where
+  module _ (p : Frame) (e : Some p ≡ frame_at bs c.used) where
     here : WholeAt bs c.used p.start p.end
     here = whole_there bs c.used p e
 

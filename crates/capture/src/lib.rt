@@ -6,11 +6,10 @@ ghost use Rattle.model.specs.Table.{table_of, holding};
 ghost use Rattle.model.specs.Capture.{receive_capture};
 ghost use Rattle.capture.specs.Receives.{ReceivesAll};
 
-use framing::frame_at;
+use framing::{Frame, frame_at};
 use model::{Captured, Head};
 use receive::Tested;
 use refusals::Refusal;
-use std::ops::Range;
 use tally::{Tally, uncounted};
 
 // Receives the packets of a buffer's whole frames one after another into a table that passes the tests.
@@ -19,7 +18,7 @@ pub fn receive_frames(table: &mut Tested, frames: &[u8]) -> Captured
     ensures { ReceivesAll table.old frames.now result table.new }
 {
     let mut tally = Tally::none_yet(table.head.count);
-    while let Some(Range { start, end }) = frame_at(frames, tally.used) {
+    while let Some(Frame { start, end }) = frame_at(frames, tally.used) {
         let got = table.receive(&frames[start..end]);
         tally = tally.one_more(got, end);
     }

@@ -129,6 +129,10 @@ module _ (first last : ℕ) (order : first ≤ last) where
       ∙ differing_word (λ x. ltb x (last + 1)) (λ x. ltb x first) 64 from
       ∙ same_word (λ x. differing (ltb x (last + 1)) (ltb x first)) (λ x. leb first x && leb x last) 64 from (λ k l h. between k)
 
+  pub range_before : (from : ℕ) → last < from → 0 ≡ word (λ c. leb first c && leb c last) from 64
+  range_before from h =
+      sym (xor_zero_l 0) ∙ range_word from 0 0 (none_below (last + 1) from (omega arith)) (none_below first from (omega arith))
+
 -- THE SET WITH A RANGE
 
 module _ (s : Codes) (first last : ℕ) (h₀ : s.from_0 < 2 ^ 64) (h₁ : s.from_64 < 2 ^ 64) (h₂ : s.from_128 < 2 ^ 64) (h₃ : s.from_192 < 2 ^ 64) where

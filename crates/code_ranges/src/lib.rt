@@ -35,6 +35,10 @@ fn word_of(range: Range, from: u32) -> u64
     requires { from ≤ 192 }
     ensures { result ≡ word (λ c. leb range.first c && leb c range.last) from 64 }
 {
+    // Most codes are low: only the first word tells of them.
+    if range.last < from {
+        return 0;
+    }
     word_below(range.last + 1, from) ^ word_below(range.first, from)
 }
 

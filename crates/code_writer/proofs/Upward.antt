@@ -1,7 +1,7 @@
 -- Walking a set upward: the ranges from a code on, and what the two searches find.
 use Prim.Native.Nat.{ℕ, zero, suc, ◌+◌, ◌-◌, ◌<◌, ◌≤◌}
 use mathlib.Core.Path.{◌≡◌, refl, sym, ◌∙◌, ap}
-use mathlib.Core.Bool.{Bool, true, false, not, false≢true}
+use mathlib.Core.Bool.{Bool, true, false, not}
 use mathlib.Core.List.{List, [], ◌∷◌}
 use native.Mathlib.Nat.{add-zero}
 use native.Mathlib.Numerals.{add-one}
@@ -108,27 +108,29 @@ module _ (s : Codes) where
         all : (k : ℕ) → first ≤ k → k < end → is_in s k ≡ true
         alone : Rising (suc end) (ranges_from s end)
 
-      ends : (found : Option ℕ) → First (λ k. not (is_in s k)) first found → Ends (unwrap_or found 256)
+      -- the first is in the set, and so are those behind it
+      from_first : (end : ℕ) → ((k : ℕ) → first + 1 ≤ k → k < end → not (is_in s k) ≡ false) → (k : ℕ) → first ≤ k → k < end → is_in s k ≡ true
+      from_first end behind k l m = go (eqb first k) refl
+        where
+          go : (b : Bool) → eqb first k ≡ b → is_in s k ≡ true
+          go true e = ap (is_in s) (sym (eqb-true first k e)) ∙ begins.2
+          go false e = not-false (is_in s k) (behind k (omega (arith, eqb-false first k e)) m)
+
+      ends : (found : Option ℕ) → First (λ k. not (is_in s k)) (first + 1) found → Ends (unwrap_or found 256)
       ends None all = record {
         after = omega (arith, begins.1);
         within = omega arith;
-        all = λ k l m. not-false (is_in s k) (all k l m);
+        all = from_first 256 all;
         alone = rw (nothing_left s 256 (omega arith)) tt;
       }
       ends (Some end) found = record {
-        after = go (eqb first end) refl;
+        after = omega (arith, found.0);
         within = omega (arith, found.1);
-        all = λ k l m. not-false (is_in s k) (found.3 k l m);
+        all = from_first end found.3;
         alone = rw (out_of_set s end found.1 (not-true (is_in s end) found.2), add-one end) (rises_from s (suc end) (omega (arith, found.1)));
       }
-        where
-          go : (b : Bool) → eqb first end ≡ b → first < end
-          go true e =
-              let in_set : is_in s end ≡ true = ap (is_in s) (sym (eqb-true first end e)) ∙ begins.2 in
-              absurd (false≢true (sym (not-true (is_in s end) found.2) ∙ in_set))
-          go false e = omega (arith, eqb-false first end e, found.0)
 
-      module _ (found : Option ℕ) (f : First (λ k. not (is_in s k)) first found) (end : ℕ) (e : end ≡ unwrap_or found 256) where
+      module _ (found : Option ℕ) (f : First (λ k. not (is_in s k)) (first + 1) found) (end : ℕ) (e : end ≡ unwrap_or found 256) where
         there : Ends end
         there = rw e (ends found f)
 

@@ -19,7 +19,7 @@ fn next_range(codes: Codes, from: u32) -> Option<Range>
     ensures { Next codes from result }
 {
     let first = (from..256).find(|&code| contains(codes, code))?;
-    let end = (first..256).find(|&code| !contains(codes, code));
+    let end = (first + 1..256).find(|&code| !contains(codes, code));
     Some(Range {
         first,
         last: end.unwrap_or(256) - 1,

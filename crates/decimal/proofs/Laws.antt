@@ -1,18 +1,25 @@
 -- Which characters are digits, and what an answer says of one more.
 use Prim.Native.Nat.{ℕ, ◌+◌, ◌-◌, ◌*◌, ◌≤◌, ◌<◌}
 use mathlib.Core.Path.{◌≡◌, refl, sym, ◌∙◌, subst}
-use mathlib.Core.Bool.{Bool, true, false, not, cond}
+use mathlib.Core.Bool.{Bool, true, false, not, cond, and-false}
 use mathlib.Core.List.{List, [], ◌∷◌}
 use native.Mathlib.Omega.{arith}
-use borrow.Author.Tests.{lt-leb, leb-true, leb-false}
+use borrow.Author.Tests.{le-leb, lt-leb, leb-true, leb-false}
 use lib.Dec.{leb}
 use Rattle.std.specs.Prelude.{Result, Ok, Err}
 use Rattle.decimal.specs.declared.NumberError.{NumberError}
 use Rattle.decimal.specs.declared.NumberError.TheVariants.{NoDigit, TooLarge}
 use Rattle.decimal.specs.Decimal.{is_digit, followed_by, next_number}
 
-pub below : (b : ℕ) → b < 48 → is_digit b ≡ false
-below b h = rw (lt-leb 48 b h)
+module _ (b : ℕ) where
+  pub below : b < 48 → is_digit b ≡ false
+  below h = rw (lt-leb 48 b h)
+
+  pub above : 57 < b → is_digit b ≡ false
+  above h = rw (lt-leb b 57 h, and-false (leb 48 b))
+
+  pub between : 48 ≤ b → b ≤ 57 → is_digit b ≡ true
+  between l h = rw (le-leb 48 b l, le-leb b 57 h)
 
 -- more digits make no number smaller
 pub grows : (n : ℕ) (ds : List ℕ) → n ≤ followed_by n ds

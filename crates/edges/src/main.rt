@@ -13,11 +13,10 @@ mod walks;
 
 use model::Table;
 use row::Row;
-use std::io;
 use std::io::Stdout;
 
 // Makes a row's call, on the table and the bytes lent to it, and prints the answer.
-fn call(to: Stdout, table: &mut Table, row: &Row, bytes: &[u8]) -> io::Result<()> {
+fn call(to: Stdout, table: &mut Table, row: &Row, bytes: &[u8]) {
     let codes = table.head.codes;
     let numbers = row.numbers();
     match row.name {
@@ -36,10 +35,7 @@ fn call(to: Stdout, table: &mut Table, row: &Row, bytes: &[u8]) -> io::Result<()
         b"open_red" => tables::open_redundant(to, table, numbers),
         b"receive" => tables::receive(to, table, bytes),
         b"fill" => tables::fill(to, table, numbers),
-        b"put" => {
-            tables::put(table, numbers);
-            Ok(())
-        }
+        b"put" => tables::put(table, numbers),
         b"table" => tables::table(to, table, numbers),
         b"look" => tables::look(to, *table, numbers),
         b"capture" => tables::capture(to, *table, bytes),
@@ -48,22 +44,22 @@ fn call(to: Stdout, table: &mut Table, row: &Row, bytes: &[u8]) -> io::Result<()
         b"event" => tables::event(to, table, numbers),
         b"session" => texts::session(to, bytes),
         b"frame" => texts::frame(to, numbers, bytes),
-        _ => Ok(()),
+        _ => {}
     }
 }
 
 // A row makes its call on the bytes that it gives after a colon, or on so many of those before as its first number says.
 fn run(to: Stdout, table: &mut Table, bytes: &mut [u8; 64], line: &[u8]) {
-    let _ = to.write_all(line);
+    show::text(to, line);
     let row = Row::new(line);
     if row.name != b"#".as_slice() {
         let lent = match row.given {
             Some(text) => given::bytes_of(text, bytes),
             None => row.numbers().size(),
         };
-        let _ = call(to, table, &row, bytes.get(..lent).unwrap_or(&[]));
+        call(to, table, &row, bytes.get(..lent).unwrap_or(&[]));
     }
-    let _ = println!(to);
+    show::text(to, b"\n");
 }
 
 fn main(rt: HostRuntime) {

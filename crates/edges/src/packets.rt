@@ -3,7 +3,6 @@ use crate::row::Numbers;
 use crate::show;
 use model::{Codes, OlderReport, Plan, Report};
 use refusals::Refusal;
-use std::io;
 use std::io::Stdout;
 
 // M, payload type, sequence number, timestamp, SSRC, code, E, volume, duration.
@@ -47,47 +46,55 @@ fn plan_of(numbers: &mut Numbers) -> Plan {
     }
 }
 
-pub fn read(to: Stdout, codes: Codes, packet: &[u8]) -> io::Result<()> {
+pub fn read(to: Stdout, codes: Codes, packet: &[u8]) {
     match packet::read(codes, packet) {
-        Ok(report) => print!(to;
-            " = {} {} {} {} {} {} {} {} {} -> 0",
-            u8::from(report.marker),
-            report.payload_type,
-            report.sequence,
-            report.timestamp,
-            report.ssrc,
-            report.code,
-            u8::from(report.ended),
-            report.volume,
-            report.duration
-        ),
+        Ok(report) => {
+            show::told(
+                to,
+                [
+                    u64::from(report.marker),
+                    u64::from(report.payload_type),
+                    u64::from(report.sequence),
+                    u64::from(report.timestamp),
+                    u64::from(report.ssrc),
+                    u64::from(report.code),
+                    u64::from(report.ended),
+                    u64::from(report.volume),
+                    u64::from(report.duration),
+                ],
+            );
+            show::answer(to, 0);
+        }
         Err(refusal) => show::refused(to, refusal),
     }
 }
 
 // How many reports a plan has.
-pub fn count(to: Stdout, codes: Codes, mut numbers: Numbers) -> io::Result<()> {
+pub fn count(to: Stdout, codes: Codes, mut numbers: Numbers) {
     match plan::report_count(codes, plan_of(&mut numbers)) {
-        Ok(reports) => print!(to; " = {reports} -> 0"),
+        Ok(reports) => {
+            show::told(to, [u64::from(reports)]);
+            show::answer(to, 0);
+        }
         Err(refusal) => show::refused(to, refusal),
     }
 }
 
 // What a writing call answered, and all of the output.
-fn written(to: Stdout, answer: Result<(), Refusal>, out: &[u8]) -> io::Result<()> {
+fn written(to: Stdout, answer: Result<(), Refusal>, out: &[u8]) {
     match answer {
-        Ok(()) => print!(to; " -> 0")?,
-        Err(refusal) => show::refused(to, refusal)?,
+        Ok(()) => show::answer(to, 0),
+        Err(refusal) => show::refused(to, refusal),
     }
     show::bytes(to, out)
 }
 
 // How many bytes of 17 are lent, and a report.
-pub fn write(to: Stdout, codes: Codes, mut numbers: Numbers) -> io::Result<()> {
+pub fn write(to: Stdout, codes: Codes, mut numbers: Numbers) {
     let mut out = [0xEE; 17];
     let room = numbers.size();
     if 17 < room {
-        return Ok(());
+        return;
     }
     let room = &mut out[..room];
     let answer = writer::write(codes, report_of(&mut numbers), room);
@@ -95,11 +102,11 @@ pub fn write(to: Stdout, codes: Codes, mut numbers: Numbers) -> io::Result<()> {
 }
 
 // How many bytes of 17 are lent, a plan, and the report's number.
-pub fn report(to: Stdout, codes: Codes, mut numbers: Numbers) -> io::Result<()> {
+pub fn report(to: Stdout, codes: Codes, mut numbers: Numbers) {
     let mut out = [0xEE; 17];
     let room = numbers.size();
     if 17 < room {
-        return Ok(());
+        return;
     }
     let room = &mut out[..room];
     let plan = plan_of(&mut numbers);
@@ -108,11 +115,11 @@ pub fn report(to: Stdout, codes: Codes, mut numbers: Numbers) -> io::Result<()> 
 }
 
 // How many bytes of 34 are lent, a report, the redundant payload type, how many older reports, and two of them.
-pub fn write_redundant(to: Stdout, codes: Codes, mut numbers: Numbers) -> io::Result<()> {
+pub fn write_redundant(to: Stdout, codes: Codes, mut numbers: Numbers) {
     let mut out = [0xEE; 34];
     let room = numbers.size();
     if 34 < room {
-        return Ok(());
+        return;
     }
     let room = &mut out[..room];
     let answer = block_writer::write_redundant(

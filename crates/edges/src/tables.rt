@@ -3,7 +3,6 @@ use crate::row::Numbers;
 use crate::show;
 use model::{Head, Received, Table};
 use segment::key_of;
-use std::io;
 use std::io::Stdout;
 use valid::Columns;
 
@@ -29,26 +28,31 @@ fn columns(table: &Table) -> Columns<'_> {
 }
 
 // Payload type, SSRC, origin. If they are refused, the table stays.
-pub fn open(to: Stdout, table: &mut Table, mut numbers: Numbers) -> io::Result<()> {
+pub fn open(to: Stdout, table: &mut Table, mut numbers: Numbers) {
     let codes = table.head.codes;
     match opening::open(codes, numbers.number(), numbers.number(), numbers.number()) {
         Ok(opened) => {
             *table = opened;
             let head = opened.head;
-            print!(to;
-                " = {} {} {} -> 0",
-                head.payload_type, head.ssrc, head.origin
-            )
+            show::told(
+                to,
+                [
+                    u64::from(head.payload_type),
+                    u64::from(head.ssrc),
+                    u64::from(head.origin),
+                ],
+            );
+            show::answer(to, 0);
         }
         Err(refusal) => {
-            print!(to; " = 0 0 0")?;
-            show::refused(to, refusal)
+            show::told(to, [0; 3]);
+            show::refused(to, refusal);
         }
     }
 }
 
 // Payload type, redundant payload type, SSRC, origin. If they are refused, the table stays.
-pub fn open_redundant(to: Stdout, table: &mut Table, mut numbers: Numbers) -> io::Result<()> {
+pub fn open_redundant(to: Stdout, table: &mut Table, mut numbers: Numbers) {
     let opened = opening::open_redundant(
         table.head.codes,
         numbers.number(),
@@ -60,14 +64,21 @@ pub fn open_redundant(to: Stdout, table: &mut Table, mut numbers: Numbers) -> io
         Ok(opened) => {
             *table = opened;
             let head = opened.head;
-            print!(to;
-                " = {} {} {} {} {} -> 0",
-                head.payload_type, head.both_types, head.redundant_type, head.ssrc, head.origin
-            )
+            show::told(
+                to,
+                [
+                    u64::from(head.payload_type),
+                    u64::from(head.both_types),
+                    u64::from(head.redundant_type),
+                    u64::from(head.ssrc),
+                    u64::from(head.origin),
+                ],
+            );
+            show::answer(to, 0);
         }
         Err(refusal) => {
-            print!(to; " = 0 0 0 0 0")?;
-            show::refused(to, refusal)
+            show::told(to, [0; 5]);
+            show::refused(to, refusal);
         }
     }
 }
@@ -80,18 +91,19 @@ fn hear(table: &mut Table, packet: &[u8]) -> Received {
 }
 
 // How many segments were looked at, how many are held; new, known or the refusal's number.
-fn received(to: Stdout, got: Received) -> io::Result<()> {
-    print!(to; " {} {} -> ", got.probes, got.count)?;
+fn received(to: Stdout, got: Received) {
+    show::numbers(to, [got.probes as u64, got.count as u64]);
     match got.refusal {
-        0 if got.is_new => print!(to; "new"),
-        0 => print!(to; "known"),
-        refusal => print!(to; "{refusal}"),
+        0 if got.is_new => show::text(to, b" -> new"),
+        0 => show::text(to, b" -> known"),
+        refusal => show::answer(to, refusal),
     }
 }
 
-pub fn receive(to: Stdout, table: &mut Table, packet: &[u8]) -> io::Result<()> {
-    print!(to; " =")?;
-    received(to, hear(table, packet))
+pub fn receive(to: Stdout, table: &mut Table, packet: &[u8]) {
+    let got = hear(table, packet);
+    show::text(to, b" =");
+    received(to, got);
 }
 
 // A report for a table with payload type 101, SSRC 7 and origin 0.
@@ -102,24 +114,23 @@ fn packet_at(offset: u8, code: u8) -> [u8; 16] {
 }
 
 // The table emptied, and reports received at so many offsets, from the highest to the lowest.
-pub fn fill(to: Stdout, table: &mut Table, mut numbers: Numbers) -> io::Result<()> {
+pub fn fill(to: Stdout, table: &mut Table, mut numbers: Numbers) {
     table.head.count = 0;
     *table = opening::empty(table.head);
     for offset in (0..numbers.byte()).rev() {
         hear(table, &packet_at(offset, 5));
     }
-    print!(to; " = {}", table.head.count)
+    show::told(to, [table.head.count as u64]);
 }
 
 // Seven pairs of offset and code, and how many segments a copy of the table looks at for a report of each.
-pub fn look(to: Stdout, table: Table, mut numbers: Numbers) -> io::Result<()> {
-    print!(to; " =")?;
+pub fn look(to: Stdout, table: Table, mut numbers: Numbers) {
+    show::text(to, b" =");
     for _ in 0..7u8 {
         let packet = packet_at(numbers.byte(), numbers.byte());
         let mut copy = table;
-        print!(to; " {}", hear(&mut copy, &packet).probes)?;
+        show::numbers(to, [hear(&mut copy, &packet).probes as u64]);
     }
-    Ok(())
 }
 
 // Duration, volume, quietest, E and M in one number.
@@ -147,79 +158,94 @@ pub fn put(table: &mut Table, mut numbers: Numbers) {
 
 // Payload type, both types, redundant type and count of a table that no call made: whether it passes the tests, and what it answers to
 // no bytes.
-pub fn table(to: Stdout, table: &mut Table, mut numbers: Numbers) -> io::Result<()> {
+pub fn table(to: Stdout, table: &mut Table, mut numbers: Numbers) {
     table.head.payload_type = numbers.byte();
     table.head.both_types = numbers.byte();
     table.head.redundant_type = numbers.byte();
     table.head.count = numbers.number() as usize;
     let passes = columns(table).is_valid();
-    print!(to; " = {} |", u8::from(passes))?;
+    show::told(to, [u64::from(passes)]);
+    show::text(to, b" |");
     let mut copy = *table;
-    received(to, hear(&mut copy, b""))
+    received(to, hear(&mut copy, b""));
 }
 
 // Offset, code, duration, volume, quietest, E and M of the segment at a place.
-pub fn segment(to: Stdout, table: &Table, mut numbers: Numbers) -> io::Result<()> {
+pub fn segment(to: Stdout, table: &Table, mut numbers: Numbers) {
     let place = numbers.size();
     let key = table.keys[place];
-    let told = table.heard[place];
-    print!(to;
-        " = {} {} {} {} {} {} {}",
-        key / 256,
-        key % 256,
-        told % 0x1_0000,
-        told / 0x100_0000,
-        told / 0x4_0000 % 64,
-        told / 0x1_0000 % 2,
-        told / 0x2_0000 % 2
-    )
+    let told = u64::from(table.heard[place]);
+    show::told(
+        to,
+        [
+            key / 256,
+            key % 256,
+            told % 0x1_0000,
+            told / 0x100_0000,
+            told / 0x4_0000 % 64,
+            told / 0x1_0000 % 2,
+            told / 0x2_0000 % 2,
+        ],
+    );
 }
 
 // The event at a number.
-pub fn event(to: Stdout, table: &Table, mut numbers: Numbers) -> io::Result<()> {
+pub fn event(to: Stdout, table: &Table, mut numbers: Numbers) {
     match events::event_at(columns(table), numbers.number()) {
-        Ok(event) => print!(to;
-            " = {} {} {} {} {} {} {} -> 0",
-            event.code,
-            event.start,
-            event.length,
-            event.volume,
-            event.quietest,
-            u8::from(event.began),
-            u8::from(event.ended)
-        ),
+        Ok(event) => {
+            show::told(
+                to,
+                [
+                    u64::from(event.code),
+                    u64::from(event.start),
+                    u64::from(event.length),
+                    u64::from(event.volume),
+                    u64::from(event.quietest),
+                    u64::from(event.began),
+                    u64::from(event.ended),
+                ],
+            );
+            show::answer(to, 0);
+        }
         Err(refusal) => show::refused(to, refusal),
     }
 }
 
 // What a copy of the table receives of frames: the segments held, the bytes used, and the packets taken, refused and packed.
-pub fn capture(to: Stdout, mut table: Table, frames: &[u8]) -> io::Result<()> {
+pub fn capture(to: Stdout, mut table: Table, frames: &[u8]) {
     let got = capture::receive_capture(table.head, &mut table.keys, &mut table.heard, frames);
-    print!(to;
-        " = {} {} {} {} {} -> {}",
-        got.count, got.used, got.taken, got.refused, got.packed, got.refusal
-    )
+    show::told(
+        to,
+        [
+            got.count as u64,
+            got.used as u64,
+            got.taken as u64,
+            got.refused as u64,
+            got.packed as u64,
+        ],
+    );
+    show::answer(to, u64::from(got.refusal));
 }
 
 // What a copy of the table answers to a packet, with the first entries of four lent: the entries written, the segments held, all four
 // entries, and the numbers in the first two places.
-pub fn redundant(to: Stdout, table: Table, mut numbers: Numbers, packet: &[u8]) -> io::Result<()> {
+pub fn redundant(to: Stdout, table: Table, mut numbers: Numbers, packet: &[u8]) {
     let mut entries = [9; 4];
     let room = numbers.size();
     if 4 < room {
-        return Ok(());
+        return;
     }
     let room = &mut entries[..room];
     let mut keys = table.keys;
     let mut heard = table.heard;
     let got = redundant::receive_redundant(table.head, &mut keys, &mut heard, packet, room);
-    print!(to; " = {} {} |", got.blocks, got.count)?;
-    for entry in entries {
-        print!(to; " {entry}")?;
-    }
-    print!(to; " |")?;
-    print!(to;
-        " {} {} {} {} -> {}",
-        keys[0], heard[0], keys[1], heard[1], got.refusal
-    )
+    show::told(to, [got.blocks as u64, got.count as u64]);
+    show::text(to, b" |");
+    show::numbers(to, entries.map(u64::from));
+    show::text(to, b" |");
+    show::numbers(
+        to,
+        [keys[0], u64::from(heard[0]), keys[1], u64::from(heard[1])],
+    );
+    show::answer(to, u64::from(got.refusal));
 }

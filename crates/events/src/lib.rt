@@ -27,7 +27,7 @@ fn held<'a>(table: Columns<'a>) -> Result<Held<'a>, Refusal>
 
 // The place where event k begins, counted from 0 among those that begin at the place `from` or later. Whoever goes on after it finds
 // the later ones. It tests for no last place, since that event is still to come.
-fn event_place(held: Held, from: usize, k: usize) -> usize
+pub fn event_place(held: Held, from: usize, k: usize) -> usize
     requires { k < length (events_from held from) }
     ensures { Finds held.entry.keys.now held.entry.heard.now (length held.entry.keys.now) from k result }
 {
@@ -59,7 +59,7 @@ pub fn event_at(table: Columns, k: u32) -> Result<Event, Refusal>
 }
 
 // How many events there are, or 16, or 15 if there is room for fewer.
-fn count_for(table: Columns, room: usize) -> Result<usize, Refusal>
+pub fn count_for(table: Columns, room: usize) -> Result<usize, Refusal>
     ensures { listed_of (told 0 result)
         ≡ list_answer (table_of table.entry.head table.entry.keys.now table.entry.heard.now) room }
 {

@@ -11,7 +11,7 @@ use Rattle.model.specs.Packet.{byte, number16}
 use Rattle.model.specs.Frames.{frame_size, starts_whole, first_packet, after_first}
 use Rattle.theorems.proofs.Frames.{whole_if, whole_then, cut_if}
 use Rattle.std.specs.Prelude.{Some, None}
-use Rattle.std.specs.declared.ops.Range.{Range}
+use Rattle.framing.specs.declared.Frame.{Frame}
 use Rattle.framing.specs.Frame.{frame_at}
 
 module _ (bs : List ℕ) (at : ℕ) where
@@ -63,11 +63,11 @@ module _ (bs : List ℕ) (at : ℕ) where
         after = sym (drop-drop (2 + n) at bs);
       }
 
-  abbrev there : Range ℕ
+  abbrev there : Frame
   there = record { start = at + 2; end = at + frame_size (drop at bs) }
 
   -- a packet that is told of, and none
-  module _ (p : Range ℕ) (is : Some p ≡ frame_at bs at) where
+  module _ (p : Frame) (is : Some p ≡ frame_at bs at) where
     pub whole_there : WholeAt bs at p.start p.end
     unfolding frame_at
     whole_there = go (starts_whole (drop at bs)) refl is

@@ -5,12 +5,18 @@ ghost use Rattle.std.specs.Prelude.{◌≡◌, ◌≤◌, length};
 ghost use Rattle.framing.specs.Frame.{frame_at};
 
 use big_endian::number_16;
-use std::ops::Range;
 
-// The places of the packet whose whole frame stands at a place of a buffer. There is none where the rest of the buffer is nothing, one byte
-// of a length, or a frame that the buffer's end cuts short.
+// The places of a frame's packet, from `start` up to `end`.
+#[derive(Clone, Copy)]
+pub struct Frame {
+    pub start: usize,
+    pub end: usize,
+}
+
+// The whole frame at a place of a buffer. There is none where the rest of the buffer is nothing, one byte of a length, or a frame that the
+// buffer's end cuts short.
 #[tactic(auto, using(crate::proofs::Laws::framing))]
-pub fn frame_at(s: &[u8], at: usize) -> Option<Range<usize>>
+pub fn frame_at(s: &[u8], at: usize) -> Option<Frame>
     requires { at ≤ length s.now }
     ensures { result ≡ frame_at s.now at }
 {
@@ -22,6 +28,8 @@ pub fn frame_at(s: &[u8], at: usize) -> Option<Range<usize>>
     if left - 2 < length {
         return None;
     }
-    let start = at + 2;
-    Some(start..start + length)
+    Some(Frame {
+        start: at + 2,
+        end: at + 2 + length,
+    })
 }

@@ -101,6 +101,9 @@ module _ (keys heard : List ℕ) where
           (valid_from head.codes keys heard head.count 0 p.each i (omega arith) (omega arith)) in
           omega (arith, s.offset)
 
+  pub fewer : (n i : ℕ) → InRanges keys heard n → i < n → InRanges keys heard (i + 1)
+  fewer n i r h = record { few = omega (arith, r.few); each = λ j l. r.each j (omega arith) }
+
   -- the segments from a place on
   abbrev rest : ℕ → ℕ → List Segment
   rest n i = segments_from keys heard i (n - i)

@@ -1,20 +1,18 @@
 -- Text put at a place: a number by how many digits it has, and a range as one number or two.
-use Prim.Native.Nat.{ℕ, suc, ◌+◌, ◌-◌, ◌/◌, ◌%◌, ◌≤◌}
-use mathlib.Core.Path.{◌≡◌, ◌∙◌, ap}
+use Prim.Native.Nat.{ℕ, suc, ◌+◌, ◌/◌, ◌%◌, ◌<◌, ◌≤◌}
+use mathlib.Core.Path.{◌≡◌, refl, ◌∙◌, ap}
 use mathlib.Core.Bool.{Bool, true, false, cond}
 use mathlib.Core.List.{List, [], ◌∷◌, ◌++◌, append_assoc}
 use native.Mathlib.Omega.{arith}
 use borrow.Author.Rules.{rules}
-use borrow.Author.Tests.{eq-eqb, ne_eqb}
+use borrow.Author.Tests.{eq-eqb, ne_eqb, lt-ltb, le-ltb}
 use borrow.Rule.Slice.PartMut.{put_mid}
 use lib.Dec.{eqb}
-use lib.ListN.{length, take, drop, set, length-append, length-drop, length-set}
-use lib.Seq.{take_all}
-use Rattle.std.proofs.lemmas.List.{take_more_set}
+use lib.ListN.{length, take, length-append}
 use Rattle.std.proofs.lemmas.Slice.{take-put_mid}
 use Rattle.decimal.specs.Decimal.{digit}
 use Rattle.code_text.specs.CodeText.{comma, dash, decimal}
-use Rattle.item_writer.specs.Items.{Puts, three_digits, number_after, range_text}
+use Rattle.item_writer.specs.Items.{Puts, number_after, range_text}
 
 -- one text after another
 both_put : (p q before between after : List ℕ) (at middle end : ℕ) → Puts p at before middle between → Puts q middle between end after
@@ -24,29 +22,41 @@ both_put p q before between after at middle end x y = record {
   so_far = y.so_far ∙ ap (λ (l : List ℕ). l ++ q) x.so_far ∙ append_assoc (take at before) p q;
 }
 
--- A NUMBER
+-- A TEXT, AND A NUMBER
 
--- what is left of the three digits after the zeros ahead
-digits_left : (zeros d₂ d₁ d₀ n : ℕ) → d₂ ≡ digit (n / 100) → d₁ ≡ digit (n / 10 % 10) → d₀ ≡ digit (n % 10)
-    → drop zeros (three_digits n) ≡ decimal n → take (3 - zeros) (drop zeros (d₂ ∷ d₁ ∷ d₀ ∷ [])) ≡ decimal n
-digits_left zeros d₂ d₁ d₀ n e₂ e₁ e₀ rest =
-    let all : List ℕ = d₂ ∷ d₁ ∷ d₀ ∷ [] in
-    take_all (3 - zeros) (drop zeros all) (omega (arith, length-drop zeros all)) ∙ (rw (e₂, e₁, e₀) rest)
+pub text_put : (p before : List ℕ) (at k : ℕ) → at + length p ≤ length before → Puts p at before (at + length p) (put_mid at k before p)
+text_put p before at k room = record {
+  ends = refl;
+  so_far = take-put_mid at k before p (at + length p) refl (omega arith);
+}
 
-module _ (separator n at zeros d₂ d₁ d₀ : ℕ) (e₂ : d₂ ≡ digit (n / 100)) (e₁ : d₁ ≡ digit (n / 10 % 10)) (e₀ : d₀ ≡ digit (n % 10))
-    (rest : drop zeros (three_digits n) ≡ decimal n) (before written : List ℕ)
-    (after : written ≡ take (3 - zeros) (drop zeros (d₂ ∷ d₁ ∷ d₀ ∷ []))) (room : at + length (number_after separator n) ≤ length before) where
-  pub number_put : (k : ℕ) → Puts (number_after separator n) at before (at + 1 + length (take (3 - zeros) (drop zeros (d₂ ∷ d₁ ∷ d₀ ∷ []))))
-      (put_mid (at + 1) k (set before at separator) written)
-  number_put k =
-      let digits = digits_left zeros d₂ d₁ d₀ n e₂ e₁ e₀ rest in
-      let w : written ≡ decimal n = after ∙ digits in
-      let front : take (at + 1) (set before at separator) ≡ take at before ++ separator ∷ [] = take_more_set before at separator (omega arith) in
-      rw digits (record {
-        ends = omega arith;
-        so_far = take-put_mid (at + 1) k (set before at separator) written (at + 1 + length (decimal n)) (omega (arith, ap length w)) (omega (arith, length-set before at separator))
-            ∙ rw (front, w) (append_assoc (take at before) (separator ∷ []) (decimal n));
-      })
+module _ (separator n at : ℕ) (before : List ℕ) (end : ℕ) (after : List ℕ) where
+  pub one_digit : n < 10 → (d : ℕ) → d ≡ digit n → Puts (separator ∷ d ∷ []) at before end after → Puts (number_after separator n) at before end after
+  unfolding decimal
+  one_digit h d e p = rw (lt-ltb n 10 h, ← e) p
+
+  pub two_digits : 10 ≤ n → n < 100 → (d₁ d₀ : ℕ) → d₁ ≡ digit (n / 10) → d₀ ≡ digit (n % 10)
+      → Puts (separator ∷ d₁ ∷ d₀ ∷ []) at before end after → Puts (number_after separator n) at before end after
+  unfolding decimal
+  two_digits l h d₁ d₀ e₁ e₀ p = rw (le-ltb n 10 l, lt-ltb n 100 h, ← e₁, ← e₀) p
+
+  pub three_digits : 100 ≤ n → (d₂ d₁ d₀ : ℕ) → d₂ ≡ digit (n / 100) → d₁ ≡ digit (n / 10 % 10) → d₀ ≡ digit (n % 10)
+      → Puts (separator ∷ d₂ ∷ d₁ ∷ d₀ ∷ []) at before end after → Puts (number_after separator n) at before end after
+  unfolding decimal
+  three_digits h d₂ d₁ d₀ e₂ e₁ e₀ p = rw (le-ltb n 10 (omega arith), le-ltb n 100 h, ← e₂, ← e₁, ← e₀) p
+
+module _ (separator n at : ℕ) (before : List ℕ) (room : at + length (number_after separator n) ≤ length before) where
+  pub one_digit_fits : n < 10 → at + 2 ≤ length before
+  unfolding decimal
+  one_digit_fits h = rw (lt-ltb n 10 h) at room
+
+  pub two_digits_fit : 10 ≤ n → n < 100 → at + 3 ≤ length before
+  unfolding decimal
+  two_digits_fit l h = rw (le-ltb n 10 l, lt-ltb n 100 h) at room
+
+  pub three_digits_fit : 100 ≤ n → at + 4 ≤ length before
+  unfolding decimal
+  three_digits_fit h = rw (le-ltb n 10 (omega arith), le-ltb n 100 h) at room
 
 -- A RANGE
 
@@ -80,4 +90,17 @@ module _ (first last : ℕ) where
         range_put end after q =
             rw (not_alone n) (both_put (number_after comma first) (number_after dash last) before between after at middle end p q)
 
-pub ruleset writing_items = (rules, number_put, first_fits, one_code_put, last_fits, range_put)
+pub ruleset writing_items = (
+  rules,
+  text_put,
+  one_digit_fits,
+  one_digit,
+  two_digits_fit,
+  two_digits,
+  three_digits_fit,
+  three_digits,
+  first_fits,
+  one_code_put,
+  last_fits,
+  range_put,
+)

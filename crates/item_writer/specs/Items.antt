@@ -1,14 +1,9 @@
 -- The text of one item, and a text put at a place.
-use Rattle.std.specs.Prelude.{ℕ, ◌+◌, ◌/◌, ◌%◌, ◌≡◌, List, [], ◌∷◌, ◌++◌, length, take}
-use Rattle.decimal.specs.Decimal.{digit}
+use Rattle.std.specs.Prelude.{ℕ, ◌+◌, ◌≡◌, List, ◌∷◌, ◌++◌, length, take}
 use Rattle.code_text.specs.CodeText.{Item, comma, decimal, item_text}
 
 abbrev pub range : ℕ → ℕ → Item
 range first last = record { first = first; last = last }
-
--- a number up to 999 in three digits
-abbrev pub three_digits : ℕ → List ℕ
-three_digits n = digit (n / 100) ∷ digit (n / 10 % 10) ∷ digit (n % 10) ∷ []
 
 -- a separator and a number
 abbrev pub number_after : ℕ → ℕ → List ℕ

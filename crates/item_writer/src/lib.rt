@@ -1,26 +1,20 @@
 // The text of one item of a set of event codes, put at a place: a code, or a range of them.
 #![tactic(auto)]
 
-ghost use Rattle.std.specs.Prelude.{◌+◌, ◌≤◌, ◌≡◌, drop, length};
-ghost use Rattle.code_text.specs.CodeText.{decimal};
-ghost use Rattle.item_writer.specs.Items.{Puts, number_after, range_text, three_digits};
+ghost use Rattle.std.specs.Prelude.{◌+◌, ◌≤◌, length};
+ghost use Rattle.item_writer.specs.Items.{Puts, number_after, range_text};
 
 use code_ranges::Range;
 use decimal::digit;
 
-// How many of a number's three digits are zeros ahead of others.
-#[tactic(auto, unfolding(code_text::specs::CodeText::decimal))]
-fn zeros_ahead(n: u32) -> usize
-    ensures few { result ≤ 2 }
-    ensures rest { drop result (three_digits n) ≡ decimal n }
+// Puts a text at a place; answers the place after it. The text's length is known where it is called, so that no copying has to be called.
+#[tactic(auto, using(crate::proofs::Laws::writing_items))]
+fn put<const N: usize>(text: [u8; N], at: usize, out: &mut [u8]) -> usize
+    requires { at + length text ≤ length out.old }
+    ensures { Puts text.entry at out.old result out.new }
 {
-    if n < 10 {
-        2
-    } else if n < 100 {
-        1
-    } else {
-        0
-    }
+    out[at..at + N].copy_from_slice(&text);
+    at + N
 }
 
 // Puts a separator and a number at a place; answers the place after them.
@@ -29,12 +23,18 @@ fn put_number(separator: u8, n: u32, at: usize, out: &mut [u8]) -> usize
     requires n_in_bounds { at + length (number_after separator n) ≤ length out.old }
     ensures { Puts (number_after separator n) at out.old result out.new }
 {
-    let digits = [digit(n / 100), digit(n / 10 % 10), digit(n % 10)];
-    let digits = &digits[zeros_ahead(n)..];
-    let end = at + 1 + digits.len();
-    out[at] = separator;
-    out[at + 1..end].copy_from_slice(digits);
-    end
+    if n < 10 {
+        put([separator, digit(n)], at, out)
+    } else if n < 100 {
+        put([separator, digit(n / 10), digit(n % 10)], at, out)
+    } else {
+        let hundreds = digit(n / 100);
+        put(
+            [separator, hundreds, digit(n / 10 % 10), digit(n % 10)],
+            at,
+            out,
+        )
+    }
 }
 
 // Puts a range with its comma before it at a place; answers the place after it.

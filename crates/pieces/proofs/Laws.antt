@@ -4,13 +4,13 @@ use mathlib.Core.List.Memᴰ
 use lib.Seq.{drop-append-le}
 use Rattle.model.specs.declared.Table.{Table}
 use Rattle.model.specs.declared.Captured.{Captured}
+use Rattle.model.specs.Table.{table_of, holding, valid}
 use Rattle.model.specs.Fits.{BytesFit}
 use Rattle.model.specs.Capture.{Capturing, receive_capture, together, unused}
 use Rattle.theorems.proofs.Packets.{bytes_fit, fits_parts}
-use Rattle.theorems.proofs.Captures.{captured_within, unused_short, of_empty, in_pieces}
+use Rattle.theorems.proofs.Captures.{captured_valid, captured_within, unused_short, of_empty, in_pieces}
 use Rattle.receive.specs.declared.Tested.{Tested}
 use Rattle.receive.specs.Receives.{in_table, SameColumns}
-use Rattle.capture.specs.Receives.{ReceivesAll}
 use Rattle.pieces.specs.declared.counts.Counts.{Counts}
 use Rattle.pieces.specs.declared.SoFar.{SoFar}
 use Rattle.pieces.specs.Input.{counted, added, GoesOn, joined}
@@ -30,26 +30,33 @@ pub ruleset counting = (rules, all_added)
 fit_first : (n : ℕ) (b : List ℕ) → ((i : ℕ) → Fits w8 (get_or b i 0)) → BytesFit (take n b)
 fit_first n b f = (fits_parts n b (bytes_fit b f)).0
 
-module _ (t : Tested) (s : SoFar) (b : List ℕ) (n : ℕ) (inside : n ≤ length b) (a : Captured) (t' : Tested)
-    (r : ReceivesAll t (take n b) a t') where
+module _ (t : Tested) (s : SoFar) (b : List ℕ) (n : ℕ) (inside : n ≤ length b) (a : Captured)
+    (answer : a ≡ (receive_capture (in_table t) (take n b)).answer) where
   pub used_inside : a.used ≤ n
   used_inside =
-      omega (arith, ap (λ (x : Captured). x.used) r.answer, captured_within (in_table t) (take n b), length-take-le n b inside)
+      omega (arith, ap (λ (x : Captured). x.used) answer, captured_within (in_table t) (take n b), length-take-le n b inside)
 
-  pub went_on : ((i : ℕ) → Fits w8 (get_or b i 0)) → (c : Counts) → c ≡ added s.counts a → (many : ℕ) (b' : List ℕ) → Keeps a.used n b many b'
-      → GoesOn t s b n (record { counts = c; left = many }) t' b'
-  went_on f c e many b' k =
-      record {
-        same = k.same;
-        bytes = fit_first n b f;
-        table = r.table;
-        lent = r.lent;
-        counts = e ∙ ap (added s.counts) r.answer;
-        within = k.within;
-        left = k.front ∙ ap (λ (y : Captured). unused y (take n b)) r.answer;
-      }
+  module _ (f : (i : ℕ) → Fits w8 (get_or b i 0)) (keys' heard' : List ℕ)
+      (table : table_of (holding a.count t.head) keys' heard' ≡ (receive_capture (in_table t) (take n b)).table) where
+    -- the call leaves a table that passes the tests
+    pub passes_again : valid (table_of (holding a.count t.head) keys' heard') ≡ true
+    passes_again = rw table (captured_valid (in_table t) (take n b) t.passes (fit_first n b f))
 
-pub ruleset GoingOn = (rules, used_inside, went_on)
+    pub went_on : (t' : Tested) → in_table t' ≡ table_of (holding a.count t.head) keys' heard' → SameColumns t t'
+        → (c : Counts) → c ≡ added s.counts a → (many : ℕ) (b' : List ℕ) → Keeps a.used n b many b'
+        → GoesOn t s b n (record { counts = c; left = many }) t' b'
+    went_on t' is lent c e many b' k =
+        record {
+          same = k.same;
+          bytes = fit_first n b f;
+          table = is ∙ table;
+          lent = lent;
+          counts = e ∙ ap (added s.counts) answer;
+          within = k.within;
+          left = k.front ∙ ap (λ (y : Captured). unused y (take n b)) answer;
+        }
+
+pub ruleset GoingOn = (rules, used_inside, passes_again, went_on)
 
 -- ALL PIECES
 

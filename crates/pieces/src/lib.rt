@@ -6,7 +6,7 @@ ghost use Rattle.pieces.specs.Input.{GoesOn, HasReceived};
 
 mod counts;
 
-use capture::receive_frames;
+use capture::receive_capture;
 pub use counts::Counts;
 use input::{Broken, keep, refill};
 use receive::Tested;
@@ -31,7 +31,8 @@ fn go_on(table: &mut Tested, so_far: SoFar, b: &mut [u8], n: usize) -> SoFar
     requires { n ≤ length b.old }
     ensures { GoesOn table.old so_far b.old n result table.new b.new }
 {
-    let got = receive_frames(table, &b[..n]);
+    let got = receive_capture(table.head, table.keys, table.heard, &b[..n]);
+    table.head.count = got.count;
     SoFar {
         counts: so_far.counts.added(got),
         left: keep(b, got.used, n),

@@ -29,6 +29,11 @@ use Rattle.plan_formulas.specs.Formula.{
 use Rattle.plan_formulas.proofs.Laws.{some_left, InPlace, in_place, length_reports, report_at_lem}
 use Rattle.plan_formulas.proofs.InRange.{some_length, some_size, size_fits, some_period, few_full, in_ranges}
 
+-- at the start of a segment
+module _ (p : Plan) (h : lengths_in_range p ≡ true) (j : ℕ) (few : j ≤ 16) where
+  pub start_fits : Fits w32 (j * p.segment_size)
+  start_fits = record { fits = omega (arith, mul-le-mul_right p.segment_size few, size_fits p h) }
+
 module _ (units period i : ℕ) where
   pub no_units : units ≡ 0 → false ≡ has_report period units i
   unfolding has_report
@@ -55,6 +60,21 @@ module _ (units period i : ℕ) where
         go (no m) =
             let k : interim_count period units < i - 2 = (div-lt_iff_lt-mul {k = period} {x = units - 1} {y = i - 2} steps).1 (omega arith) in
             rw (le-ltb ((i - 2) * period) units (omega arith), le-ltb i (report_count_in period units) (omega arith))
+
+-- the multiples of the period around a report
+module _ (i period : ℕ) (h : i ≤ 65536) (k : period ≤ 65535) where
+  pub multiple_fits : Fits w32 (i * period)
+  multiple_fits = record { fits = omega (arith, mul-le-mul_right period h) }
+
+  pub later_fits : (m : ℕ) → m ≤ 1 → Fits w32 ((i + m) * period)
+  later_fits m l =
+      let n : i + m ≤ 65537 = omega arith in
+      record { fits = omega (arith, mul-le-mul_right period n) }
+
+  pub earlier_fits : (m : ℕ) → Fits w32 ((i - m) * period)
+  earlier_fits m =
+      let n : i - m ≤ 65536 = omega arith in
+      record { fits = omega (arith, mul-le-mul_right period n) }
 
 module _ (units period i : ℕ) (some : 1 ≤ units) (steps : 1 ≤ period) where
   pub next_or_last : min ((i + 1) * period) units ≡ duration_at period units i

@@ -1,11 +1,11 @@
 -- How long the text is that the listing program prints.
 use Rattle.std.specs.Prelude.{ℕ, ◌+◌, ◌≤◌}
-use Rattle.arrayvec.specs.ArrayString.{ArrayString, array_string_len}
+use Rattle.printing.specs.declared.text.Text.{Text}
 
 -- the text has room for so many bytes more
-abbrev pub HasRoom : ℕ → ArrayString → Type 0
-HasRoom more text = array_string_len text + more ≤ 28832
+abbrev pub HasRoom : ℕ → Text → Type 0
+HasRoom more text = text.len + more ≤ 28832
 
 -- at most so many bytes are put behind the text
-abbrev pub Puts : ℕ → ArrayString → ArrayString → Type 0
-Puts most text text' = array_string_len text' ≤ array_string_len text + most
+abbrev pub Puts : ℕ → Text → Text → Type 0
+Puts most text text' = text'.len ≤ text.len + most

@@ -4,17 +4,14 @@
 ghost use Rattle.std.specs.Prelude.{◌≤◌, length};
 ghost use Rattle.printing.specs.Output.{HasRoom, Puts};
 
-use arrayvec::ArrayString;
+mod text;
+
 use itoa::Buffer;
 use model::Event;
 use pieces::{Counts, SoFar};
 use std::io::Error;
+use text::Text;
 use valid::Columns;
-
-// Room for 128 events of 7 lines and 5 lines more, of 32 bytes each at the most.
-const ROOM: usize = 28_832;
-
-type Text = ArrayString<ROOM>;
 
 const NO_EVENT: Event = Event {
     code: 0,
@@ -43,14 +40,14 @@ pub fn complain<R: Eprint + AllocGlobal>(rt: &R, what: &str, why: Error) {
 }
 
 // Writes a text to standard output, or says on standard error why it cannot be written.
-fn print<R: Print + Eprint + AllocGlobal>(rt: &R, text: &str) {
-    if let Err(e) = rt.write_all(text.as_bytes()) {
+fn print<R: Print + Eprint + AllocGlobal>(rt: &R, text: &[u8]) {
+    if let Err(e) = rt.write_all(text) {
         complain(rt, "standard output", e);
     }
 }
 
 pub fn bad_session<R: Print + Eprint + AllocGlobal>(rt: &R) {
-    print(rt, "session=bad\n");
+    print(rt, b"session=bad\n");
 }
 
 // One line: a name and a number, which has at most 20 digits.
@@ -60,9 +57,9 @@ fn line(text: &mut Text, name: &str, n: u64)
     ensures { Puts 32 text.old text.new }
 {
     let mut digits = Buffer::new();
-    text.push_str(name);
-    text.push_str(digits.format(n));
-    text.push_str("\n");
+    text.push(name);
+    text.push(digits.format(n));
+    text.push("\n");
 }
 
 fn event(text: &mut Text, v: Event)
@@ -104,15 +101,18 @@ fn counted(text: &mut Text, c: Counts)
 }
 
 // The whole list.
-fn list(c: SoFar, table: Columns) -> Text {
-    let mut text = Text::new();
-    let n = events(&mut text, table);
-    line(&mut text, "events=", n as u64);
-    counted(&mut text, c.counts);
-    line(&mut text, "cut=", u64::from(0 < c.left));
-    text
+fn list(text: &mut Text, c: SoFar, table: Columns)
+    requires { HasRoom 28832 text.old }
+    ensures { Puts 28832 text.old text.new }
+{
+    let n = events(text, table);
+    line(text, "events=", n as u64);
+    counted(text, c.counts);
+    line(text, "cut=", u64::from(0 < c.left));
 }
 
 pub fn listing<R: Print + Eprint + AllocGlobal>(rt: &R, c: SoFar, table: Columns) {
-    print(rt, list(c, table).as_str());
+    let mut text = Text::new();
+    list(&mut text, c, table);
+    print(rt, text.written());
 }

@@ -2,7 +2,6 @@
 use super::reader;
 use super::sample::Sample;
 use refusals::Refusal;
-use std::io;
 use std::io::Stdout;
 
 const PACKETS: u32 = 500_000;
@@ -52,16 +51,17 @@ impl Tally {
     }
 }
 
-// Compares on all packets, and prints a line for each answer, and how often the readers differed.
-pub fn run(to: Stdout) -> io::Result<()> {
+// Compares on all packets, and prints a line for each answer, and how often the readers differed. A line that cannot be written is left
+// out.
+pub fn run(to: Stdout) {
     let mut tally = Tally::default();
     for n in 0..PACKETS {
         tally.compare(Sample::new(n).packet());
     }
-    println!(to; "packets: {PACKETS}")?;
-    println!(to; "read: {}", tally.read)?;
+    let _ = println!(to; "packets: {PACKETS}");
+    let _ = println!(to; "read: {}", tally.read);
     for (which, refused) in REFUSALS.iter().zip(tally.refused) {
-        println!(to; "refusal {}: {refused}", u8::from(*which))?;
+        let _ = println!(to; "refusal {}: {refused}", u8::from(*which));
     }
-    println!(to; "differed: {}", tally.differed)
+    let _ = println!(to; "differed: {}", tally.differed);
 }

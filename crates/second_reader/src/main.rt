@@ -8,6 +8,5 @@ mod reader;
 mod sample;
 
 fn main(rt: HostRuntime) {
-    // What cannot be written is left out.
-    let _ = compare::run(rt.stdout());
+    compare::run(rt.stdout());
 }

@@ -24,7 +24,7 @@ use Rattle.theorems.proofs.Search.{finds}
 use Rattle.theorems.proofs.Tables.{Passed, tests_passed, held_length, held_at}
 use Rattle.searching.specs.declared.Sought.{Sought}
 use Rattle.searching.specs.Seeks.{place_in, is_held, Seeks}
-use Rattle.searching.proofs.Windows.{Among, seeks_among}
+use Rattle.searching.proofs.Windows.{SeeksIn, seeks_in}
 use Rattle.table.specs.Columns.{Takes, inserted_at, taken_into}
 use Rattle.table.proofs.Columns.{key_alike, alike_key, length_in, column_stored, column_inserted}
 
@@ -42,14 +42,14 @@ module _ (h : Head) (keys heard : List ℕ) (k w : ℕ) where
     abbrev p : ℕ
     p = place_in s.place
 
-    l : Among keys h.count k s
-    l = seeks_among keys h.count k s (count_within h keys heard passes long) among
+    l : SeeksIn keys 0 h.count k s
+    l = seeks_in keys 0 h.count k s (omega (arith, count_within h keys heard passes long)) among
 
     same_probes : (search r (held t)).probes ≡ s.probes
     same_probes = λ i. (sym (l.found heard w) i).probes
 
     stands : is_held s.place ≡ (ltb p h.count && eqb (get_or keys p 0) k)
-    stands = l.there
+    stands = let here : 0 + p ≡ p = omega arith in rw here at l.there
 
     tests : Passed t
     tests = tests_passed t passes

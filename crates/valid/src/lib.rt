@@ -85,7 +85,7 @@ fn types_pass(head: Head) -> bool
 // What no code held is above, or none if a table fails another test than that of its codes: at most 128 segments held,
 // the payload types, every segment within its ranges and after the one before it, by offset, then code.
 #[tactic(auto, using(crate::proofs::Laws::testing))]
-fn highest_code<'a>(head: Head, keys: &'a [u64; 128], heard: &'a [u32; 128]) -> Option<u8>
+pub fn highest_code<'a>(head: Head, keys: &'a [u64; 128], heard: &'a [u32; 128]) -> Option<u8>
     ensures { Highest (table_of head keys.now heard.now) result }
 {
     let count = head.count;
