@@ -47,37 +47,24 @@ fn plan_of(numbers: &mut Numbers) -> Plan {
 }
 
 pub fn read(to: Stdout, codes: Codes, packet: &[u8]) {
-    match packet::read(codes, packet) {
-        Ok(report) => {
-            show::told(
-                to,
-                [
-                    u64::from(report.marker),
-                    u64::from(report.payload_type),
-                    u64::from(report.sequence),
-                    u64::from(report.timestamp),
-                    u64::from(report.ssrc),
-                    u64::from(report.code),
-                    u64::from(report.ended),
-                    u64::from(report.volume),
-                    u64::from(report.duration),
-                ],
-            );
-            show::answer(to, 0);
-        }
-        Err(refusal) => show::refused(to, refusal),
-    }
+    let read = packet::read(codes, packet).map(|report| [
+        u64::from(report.marker),
+        u64::from(report.payload_type),
+        u64::from(report.sequence),
+        u64::from(report.timestamp),
+        u64::from(report.ssrc),
+        u64::from(report.code),
+        u64::from(report.ended),
+        u64::from(report.volume),
+        u64::from(report.duration),
+    ]);
+    show::answered(to, read);
 }
 
 // How many reports a plan has.
 pub fn count(to: Stdout, codes: Codes, mut numbers: Numbers) {
-    match plan::report_count(codes, plan_of(&mut numbers)) {
-        Ok(reports) => {
-            show::told(to, [u64::from(reports)]);
-            show::answer(to, 0);
-        }
-        Err(refusal) => show::refused(to, refusal),
-    }
+    let counted = plan::report_count(codes, plan_of(&mut numbers));
+    show::answered(to, counted.map(|reports| [u64::from(reports)]));
 }
 
 // What a writing call answered, and all of the output.

@@ -30,6 +30,17 @@ pub fn refused(to: Stdout, refusal: Refusal) {
     answer(to, u64::from(u8::from(refusal)));
 }
 
+// What a call answered: its numbers, or its refusal.
+pub fn answered<const N: usize>(to: Stdout, values: Result<[u64; N], Refusal>) {
+    match values {
+        Ok(values) => {
+            told(to, values);
+            answer(to, 0);
+        }
+        Err(refusal) => refused(to, refusal),
+    }
+}
+
 // All bytes of an output, on a line of their own.
 pub fn bytes(to: Stdout, bytes: &[u8]) {
     text(to, b"\n");

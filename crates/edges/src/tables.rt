@@ -191,24 +191,16 @@ pub fn segment(to: Stdout, table: &Table, mut numbers: Numbers) {
 
 // The event at a number.
 pub fn event(to: Stdout, table: &Table, mut numbers: Numbers) {
-    match events::event_at(columns(table), numbers.number()) {
-        Ok(event) => {
-            show::told(
-                to,
-                [
-                    u64::from(event.code),
-                    u64::from(event.start),
-                    u64::from(event.length),
-                    u64::from(event.volume),
-                    u64::from(event.quietest),
-                    u64::from(event.began),
-                    u64::from(event.ended),
-                ],
-            );
-            show::answer(to, 0);
-        }
-        Err(refusal) => show::refused(to, refusal),
-    }
+    let found = events::event_at(columns(table), numbers.number()).map(|event| [
+        u64::from(event.code),
+        u64::from(event.start),
+        u64::from(event.length),
+        u64::from(event.volume),
+        u64::from(event.quietest),
+        u64::from(event.began),
+        u64::from(event.ended),
+    ]);
+    show::answered(to, found);
 }
 
 // What a copy of the table receives of frames: the segments held, the bytes used, and the packets taken, refused and packed.

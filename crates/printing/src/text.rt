@@ -16,7 +16,7 @@ impl Text {
     ghost use Rattle.std.specs.Prelude.{◌≡◌, length};
     ghost use Rattle.printing.specs.Output.{HasRoom, Puts};
 
-    pub fn new() -> Text
+    pub(crate) fn new() -> Text
         ensures { result.len ≡ 0 }
     {
         Text {
@@ -26,7 +26,7 @@ impl Text {
     }
 
     // Puts a text behind what stands there.
-    pub fn push(&mut self, text: &str)
+    pub(crate) fn push(&mut self, text: &str)
         requires { HasRoom (length text.now) self.old }
         ensures { Puts (length text.now) self.old self.new }
     {
@@ -35,7 +35,7 @@ impl Text {
         self.len = end;
     }
 
-    pub fn written(&self) -> &[u8] {
+    pub(crate) fn written(&self) -> &[u8] {
         &self.bytes[..self.len]
     }
 }
